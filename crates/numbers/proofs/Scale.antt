@@ -1,0 +1,69 @@
+-- The root of n units, where n * 2 ^ 1074 is m * 2 ^ 52 times an even power of two. Assumes nothing.
+use mathlib.Core.Path.{_≡_, sym, ap, _∙_}
+use Prim.Native.Nat.{ℕ, zero, suc, _+_, _-_, _*_, _/_, _%_, _^_, _≤_, _<_}
+use native.Mathlib.Nat.{le-trans, lt-of-lt-of-le, lt-of-not-le, lt-irrefl, mul-le-mul-left, mul-le-mul-right, mul-lt-mul-of-pos-right, mul-add}
+use native.Mathlib.Omega.{arith}
+use mathlib.Core.Bool.{false, not}
+use lib.Dec.{T}
+use lib.Pow.{pow-add, pow-pos, pow-mono}
+use lib.Ieee.{binary64, size, odd, ofBits, nanBits}
+use lib.Ieee.Digits.{size-lt, size-le}
+use Rattle.numbers.specs.Sqrt.{rounded, rootUnits}
+use Rattle.numbers.specs.Parts.{Near, patternUnits}
+use Rattle.numbers.proofs.Roots.{near-rounded, long, short}
+use Rattle.numbers.proofs.Patterns.{pattern}
+
+module _ (m k : ℕ) (lo : 2 ^ 52 ≤ m) (hi : m < 2 ^ 54) where
+  dropped : (size (m * 2 ^ 52 * 2 ^ (2 * k)) + 1) / 2 - 53 ≡ k
+  dropped =
+      let N = m * 2 ^ 52 * 2 ^ (2 * k) in
+      let a : 2 ^ (104 + 2 * k) ≤ N = rw pow-add (mul-le-mul-right (2 ^ (2 * k)) (omega arith)) in
+      let b : N < 2 ^ (106 + 2 * k) = rw pow-add (mul-lt-mul-of-pos-right (omega arith) (pow-pos (2 * k))) in
+      let few : size N ≤ 106 + 2 * k = size-le N (106 + 2 * k) b in
+      let many : 104 + 2 * k < size N = lt-of-not-le (λ (g : size N ≤ 104 + 2 * k). lt-irrefl N (lt-of-lt-of-le (size-lt N) (le-trans (pow-mono g) a))) in
+      omega arith
+
+  root-is : (n q : ℕ) → n * 2 ^ 1074 ≡ m * 2 ^ 52 * 2 ^ (2 * k) → rounded (m * 2 ^ 52 * 2 ^ (2 * k)) k ≡ q → odd 53 false q k 1074 ≡ rootUnits n
+  unfolding rootUnits
+  root-is n q e r = rw (e, dropped, r)
+
+-- The pattern of the root, from the whole number q that is nearest to √(m * 2 ^ 52).
+module _ (m k q : ℕ) (lo : 2 ^ 52 ≤ m) (hi : m + 2 ≤ 2 ^ 54) (kl : k < 2046) (h : Near (m * 2 ^ 52) q) where
+  pub root-odd : (n : ℕ) → n * 2 ^ 1074 ≡ m * 2 ^ 52 * 2 ^ (2 * k) → odd 53 false q k 1074 ≡ rootUnits n
+  root-odd n e = root-is m k lo (omega arith) n q e (near-rounded (m * 2 ^ 52) q k h)
+
+  pub root-bits : (n : ℕ) → n * 2 ^ 1074 ≡ m * 2 ^ 52 * 2 ^ (2 * k) → ofBits binary64 (k * 2 ^ 52 + q) ≡ rootUnits n
+  root-bits n e = pattern k q kl (long m q h lo hi) (short m q h lo hi) .1 ∙ root-odd n e
+
+  pub no-nan-bits : T (not (nanBits binary64 (k * 2 ^ 52 + q)))
+  no-nan-bits = pattern k q kl (long m q h lo hi) (short m q h lo hi) .0
+
+-- an odd power of two is twice an even one
+power : (p r h : ℕ) → p ≡ 2 * h + r → r < 2 → 2 ^ p ≡ (r + 1) * 2 ^ (2 * h)
+power p zero h e l = rw (e, pow-add) (omega arith)
+power p (suc zero) h e l = rw (e, pow-add) (omega arith)
+power p (suc (suc r)) h e l = omega arith
+
+product : (n m v u a c : ℕ) → n * a ≡ m * (v * u) → n * (a * (a * c)) ≡ m * v * a * (u * c)
+product n m v u a c e = let t = ap (λ (x : ℕ). x * (a * c)) e in omega arith
+
+-- a number of n units, whose 53 digits are m, in the form above
+pub even : (n m p : ℕ) → n * 2 ^ 52 ≡ m * 2 ^ p → n * 2 ^ 1074 ≡ m * (p % 2 + 1) * 2 ^ 52 * 2 ^ (2 * (p / 2 + 485))
+even n m p e =
+    let s : 2 ^ (2 * (p / 2 + 485)) ≡ 2 ^ (2 * (p / 2)) * 2 ^ 970 = rw mul-add (pow-add 2 (2 * (p / 2)) 970) in
+    rw s (product n m (p % 2 + 1) (2 ^ (2 * (p / 2))) (2 ^ 52) (2 ^ 970) (e ∙ ap (λ (x : ℕ). m * x) (power p (p % 2) (p / 2) (omega arith) (omega arith))))
+
+pub at-most-twice : (m p : ℕ) → m * (p % 2) ≤ m * 1
+at-most-twice m p = mul-le-mul-left m (omega arith)
+
+-- the same of a normal number's pattern, whose exponent's field is e + 1
+pub normal-even : (b e : ℕ) → b / 2 ^ 52 ≡ e + 1 → patternUnits b * 2 ^ 1074 ≡ (b - e * 2 ^ 52) * (e % 2 + 1) * 2 ^ 52 * 2 ^ (2 * (e / 2 + 511))
+normal-even b e h =
+    let f : b / 2 ^ 52 - 1 ≡ e = omega arith in
+    let r : (e + 52) % 2 ≡ e % 2 = omega arith in
+    let s : (e + 52) / 2 + 485 ≡ e / 2 + 511 = omega arith in
+    let m = b - e * 2 ^ 52 in
+    rw f (rw (r, s) at (even (m * 2 ^ e) m (e + 52) (lifted m e)))
+  where
+    lifted : (m e : ℕ) → m * 2 ^ e * 2 ^ 52 ≡ m * 2 ^ (e + 52)
+    lifted m e = rw pow-add (omega arith)

@@ -1,0 +1,5 @@
+-- What the promises of `numbers` cite, and the notation of every crate above it.
+pub mod Arithmetic
+pub mod Basic
+pub mod Sqrt
+pub mod Parts

@@ -1,0 +1,74 @@
+// Functions of binary64 numbers that Rattle's operators do not give. Each says what it returns for every argument, and none asks
+// anything of its caller.
+mod root;
+
+pub use root::sqrt;
+ghost use mathlib.Core.Path.{_≡_};
+ghost use lib.Ieee.{isNan};
+ghost use lib.Ieee.Scale.{finite};
+ghost use Rattle.numbers.specs.Basic.{magnitude, larger, clamped, infinite};
+
+pub fn is_nan(x: f64) -> bool
+    ensures { λ r. ⌜ r ≡ isNan x ⌝ }
+{
+    x != x
+}
+
+// The difference is 0 for a finite number and NaN for any other.
+pub fn is_finite(x: f64) -> bool
+    ensures { λ r. ⌜ r ≡ finite x ⌝ }
+{
+    x - x == 0.0
+}
+
+pub fn is_infinite(x: f64) -> bool
+    ensures { λ r. ⌜ r ≡ infinite x ⌝ }
+{
+    abs(x) == 1.0 / 0.0
+}
+
+// The sign is the pattern's first digit. A NaN has no pattern to rely on.
+pub fn abs(x: f64) -> f64
+    ensures { λ r. ⌜ r ≡ magnitude x ⌝ }
+{
+    if x != x {
+        return x;
+    }
+    f64::from_bits(f64::to_bits(x) % 0x8000_0000_0000_0000)
+}
+
+// Beyond the first two tests one is NaN or both are equal, and of equal ones only the signs of zeros differ.
+pub fn max(x: f64, y: f64) -> f64
+    ensures { λ r. ⌜ r ≡ larger x y ⌝ }
+{
+    if x < y {
+        return y;
+    }
+    if y < x {
+        return x;
+    }
+    if x != x {
+        return y;
+    }
+    if y != y {
+        return x;
+    }
+    if f64::to_bits(x) / 0x8000_0000_0000_0000 == 1 {
+        y
+    } else {
+        x
+    }
+}
+
+// Into the range from 0 to 1.
+pub fn clamp(x: f64) -> f64
+    ensures { λ r. ⌜ r ≡ clamped x ⌝ }
+{
+    if x < 0.0 {
+        return 0.0;
+    }
+    if x > 1.0 {
+        return 1.0;
+    }
+    x
+}

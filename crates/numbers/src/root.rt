@@ -1,0 +1,157 @@
+// The square root. Float arithmetic makes a guess of which nothing is promised; whole numbers then show that no other binary64 is
+// nearer, and where they do not, they work the root out.
+//
+// A number's units are multiples of 2^-1074. Where n units times 2^1074 is m * 2^52 * 2^(2k), and q is the whole number nearest to
+// √(m * 2^52), the root is q * 2^k units, whose pattern is k * 2^52 + q.
+ghost use mathlib.Core.Path.{_≡_};
+ghost use mathlib.Core.Bool.{true};
+ghost use Prim.Native.Nat.{ℕ, _+_, _*_, _/_, _^_, _≤_, _<_};
+ghost use Rattle.numbers.specs.Sqrt.{root, rootUnits};
+ghost use Rattle.numbers.specs.Parts.{Near, patternUnits};
+
+// The largest r with r * r ≤ n. Each turn takes two more binary digits of n and gives one of r; rest is what r * r leaves of those
+// taken.
+fn whole_root(n: u64) -> u64
+    requires { ⌜ n < 2 ^ 54 ⌝ }
+    ensures { λ r. ⌜ (r * r ≤ n) × (n < (r + 1) * (r + 1)) ⌝ }
+{
+    let mut i = 27u64;
+    let mut r = 0u64;
+    let mut rest = 0u64;
+    while i > 0 {
+        i -= 1;
+        rest = rest * 4 + (n >> (i * 2)) % 4;
+        r *= 2;
+        if r * 2 < rest {
+            rest -= r * 2 + 1;
+            r += 1;
+        }
+    }
+    r
+}
+
+// The whole number nearest to √(m * 2^52): the upper half of its digits is the root of m, the lower half comes from one division,
+// and the rest says whether to go one up.
+fn nearest_root(m: u64) -> u64
+    requires { ⌜ (2 ^ 52 ≤ m) × (m < 2 ^ 54) ⌝ }
+    ensures { λ r. ⌜ Near (m * 2 ^ 52) r ⌝ }
+{
+    let upper = whole_root(m);
+    let rest = (m - upper * upper) * 0x400_0000;
+    let lower = rest / (upper * 2);
+    let q = upper * 0x400_0000 + lower;
+    if lower * lower + q < rest % (upper * 2) * 0x400_0000 {
+        q + 1
+    } else {
+        q
+    }
+}
+
+// Whether q is seen to be nearest to √(m * 2^52). With t = 2q + 1 = a * 2^22 + c that is 0 < t * t - m * 2^54 < 8q, and the
+// difference is w * 2^23 + c * c. c * c is not worked out: it is above 0 and at most 2^44 - 2^23 + 1, so w may go up to
+// 2a - 2^21 + 2. Differences that are not small have wrapped, and are refused.
+fn is_nearest(m: u64, q: u64) -> bool
+    requires { ⌜ (2 ^ 52 ≤ m) × (m < 2 ^ 54) ⌝ }
+    ensures { λ r. ⌜ (r ≡ true → Near (m * 2 ^ 52) q) ⌝ }
+{
+    if q < 0x20_0000_0000_0000 {
+        let t = q * 2 + 1;
+        let a = t / 0x40_0000;
+        let c = t % 0x40_0000;
+        let d = std::num::wrapping_sub_u64(m * 1024, a * a);
+        if d < 0x4_0000_0000 {
+            let w = std::num::wrapping_sub_u64(a * c, d * 0x20_0000);
+            return w < a * 2 - 0x1f_fffd;
+        }
+    }
+    false
+}
+
+// A float near √x, for an x whose pattern is b: the nearest but for about one in two thousand. Nothing is promised of it.
+fn guess(x: f64, b: u64) -> f64
+    requires { ⌜ b < 0x7ff0_0000_0000_0000 ⌝ }
+{
+    // y is near 0.85 / √x, and a cubic in x * y * y makes good what that differs by: h is √x, to 21 binary digits
+    let y = f64::from_bits(0x5fe2_cc00_0000_0000 - b / 2);
+    let a = x * y;
+    let k = a * y - 0.601015116953232;
+    let l = 1.2117679657337508 - k;
+    let p = k * k + 1.064291527225849;
+    let h = a * l * p;
+    if h > 0.0 {
+        // g has h's upper 26 digits, so that x - g * g is exact; j is 1 / (2√x), and j * (7/4 - (g + √x / 2) * j) is 1 / (√x + g)
+        let bits = f64::to_bits(h);
+        let g = f64::from_bits(bits - bits % 0x800_0000);
+        let half = a * 0.5 * l * p;
+        let j = y * 0.5 * l * p;
+        return g + (x - g * g) * j * (1.7500000000003 - (g + half) * j);
+    }
+    h
+}
+
+// The root of n units, where n * 2^1074 is m * 2^52 * 2^(2k): g, if it is seen to be that.
+fn scaled_root(m: u64, k: u64, g: f64) -> f64
+    requires { ⌜ (2 ^ 52 ≤ m) × (m + 2 ≤ 2 ^ 54) × (k < 2046) ⌝ }
+    ensures { λ r. ⌜ ((n : ℕ) → n * 2 ^ 1074 ≡ m * 2 ^ 52 * 2 ^ (2 * k) → r ≡ rootUnits n) ⌝ }
+{
+    if g > 0.0 {
+        if is_nearest(
+            m,
+            std::num::wrapping_sub_u64(f64::to_bits(g), k * 4503599627370496),
+        ) {
+            return g;
+        }
+    }
+    f64::from_bits(k * 4503599627370496 + nearest_root(m))
+}
+
+// The root of a number within 2^27 units in the last place of 1: halfway from 1, and one unit down where that is between two.
+fn near_one(b: u64) -> f64
+    requires { ⌜ (0x3fef_ffff_f800_0000 ≤ b) × (b < 0x3ff0_0000_0800_0000) ⌝ }
+    ensures { λ r. ⌜ r ≡ rootUnits (patternUnits b) ⌝ }
+{
+    f64::from_bits((b + 0x3ff0_0000_0000_0000) / 2)
+}
+
+// The root of a normal number, whose exponent's field is e + 1.
+fn normal_root(x: f64, b: u64, e: u64) -> f64
+    requires { ⌜ (b / 2 ^ 52 ≡ e + 1) × (e < 2046) ⌝ }
+    ensures { λ r. ⌜ r ≡ rootUnits (patternUnits b) ⌝ }
+{
+    scaled_root(
+        (b - e * 4503599627370496) * (e % 2 + 1),
+        e / 2 + 511,
+        guess(x, b),
+    )
+}
+
+// The root of a subnormal number: its digits are moved up to where a normal number's stand, and no guess is made.
+fn subnormal_root(b: u64) -> f64
+    requires { ⌜ (0 < b) × (b < 2 ^ 52) ⌝ }
+    ensures { λ r. ⌜ r ≡ rootUnits (patternUnits b) ⌝ }
+{
+    let z = u64::leading_zeros(b) as u64 - 11;
+    let p = 52 - z;
+    scaled_root((b << z) * (p % 2 + 1), p / 2 + 485, 0.0)
+}
+
+// Of a number that is not above zero only a zero, -0.0 too, has a root.
+pub fn sqrt(x: f64) -> f64
+    ensures { λ r. ⌜ r ≡ root x ⌝ }
+{
+    if x > 0.0 {
+        let b = f64::to_bits(x);
+        if std::num::wrapping_sub_u64(b, 0x3fef_ffff_f800_0000) < 0x1000_0000 {
+            return near_one(b);
+        }
+        let e = std::num::wrapping_sub_u64(b / 4503599627370496, 1);
+        if e < 2046 {
+            return normal_root(x, b, e);
+        }
+        if e == 2046 {
+            return x;
+        }
+        return subnormal_root(b);
+    }
+    if x < 0.0 { 0.0 / 0.0 } else { x }
+}

@@ -5,3 +5,4 @@ mod Scale
 mod Signs
 mod Values
 mod Floats
+pub mod Nearest

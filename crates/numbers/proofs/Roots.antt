@@ -78,6 +78,15 @@ module _ (n q k : ℕ) (h : Near n q) where
           let g′ : (2 * r + 1) * (2 * r + 1) * 2 ^ (2 * k) < 4 * (n * 2 ^ (2 * k)) = omega (arith, mul-lt-mul-of-pos-right g (pow-pos (2 * k))) in
           at-floor r (omega arith, omega arith) ∙ rw compare-gt (omega arith)
 
+-- Every n above 0 has such a q: its floor or the next.
+pub nearest-of : (n : ℕ) → 0 < n → (q : ℕ) × Near n q
+nearest-of n p = go (floorRoot n) (floor-is n) (decLe n (floorRoot n * floorRoot n + floorRoot n))
+  where
+    go : (f : ℕ) → Floor n f → Dec (n ≤ f * f + f) → (q : ℕ) × Near n q
+    go zero h (yes l) = (0, omega arith)
+    go (suc f) h (yes l) = (suc f, omega arith)
+    go f h (no l) = let g = lt-of-not-le l in (f + 1, omega arith)
+
 -- A root of m * 2 ^ 52, a number of 105 or 106 digits, has 53.
 module _ (m q : ℕ) (h : Near (m * 2 ^ 52) q) (lo : 2 ^ 52 ≤ m) (hi : m + 2 ≤ 2 ^ 54) where
   pub long : 2 ^ 52 ≤ q

@@ -3,3 +3,4 @@ pub mod Arithmetic
 pub mod Basic
 pub mod Sqrt
 pub mod Parts
+pub mod Known

@@ -1,0 +1,250 @@
+-- What `root` says, proved: `floor-is` of `Roots.antt`, and here that no binary64 lies nearer to √x than `root x` (`none-nearer`), that no tie arises (`no-tie`) and that only one value is nearest (`only-one`). Assumes nothing.
+use mathlib.Core.Path.{_≡_, sym, ap, _∙_, subst}
+use mathlib.Core.Logic.{_⊎_, inl, inr, ⊎-elim}
+use Prim.Native.Nat.{ℕ, zero, suc, _+_, _-_, _*_, _/_, _%_, _^_, _≤_, _<_}
+use native.Mathlib.Nat.{le-of-lt, lt-of-not-le, lt-of-lt-of-le, mul-le-mul, mul-le-mul-right, mul-lt-mul-of-pos-right, mul-pos, div-eq-of-eq-mul-left, zero-mul, zero-div, div-one, not-le-of-lt}
+use native.Mathlib.Decide.{decLe}
+use native.Mathlib.Omega.{arith}
+use mathlib.Core.Bool.{true, false, _&&_}
+use lib.IntN.{ℤ, pos, negsuc}
+use lib.Dec.{T, leb, ltb, eqb, ltb→lt, leb→le}
+use lib.Pow.{pow-add, pow-pos, pow-mono, pow-lt}
+use lib.Count.{leadingZeros}
+use lib.Ieee.{Float, nan, inf, fin, binary64, up, down, size, fits, odd, ofBits, toBits}
+use lib.Ieee.Bits.{ofBits-toBits, ofBits-fits}
+use lib.Ieee.Fits.{and-l, and-r}
+use lib.Ieee.Scale.{finite}
+use lib.Ieee.Positive.{positive, positive-finite, positive-of-value}
+use lib.Ieee.Exact.{odd-sign}
+use Rattle.numbers.specs.Sqrt.{units, floorRoot, root, rootUnits, twiceRoot², twiceMidpoint², Nearest, NoneNearer, NoTie, OnlyOne}
+use Rattle.numbers.specs.Parts.{Near, patternUnits}
+use Rattle.numbers.proofs.Patterns.{pattern}
+use Rattle.numbers.proofs.Roots.{nearest-of, long, short}
+use Rattle.numbers.proofs.Scale.{at-most-twice, normal-even, root-odd}
+use Rattle.numbers.proofs.Values.{join, units-of, units-pattern, bits-lt, bits-pos, Moved, moved}
+
+-- ---- every value of the format is a number below 2 ^ 53 times a power of two, in units
+
+back : (a l : ℕ) → 2 ^ a ≤ 2 ^ l → a ≤ l
+back a l h = le-of-not (λ (g : suc l ≤ a). not-le-of-lt (pow-lt g) h)
+  where
+    le-of-not : (suc l ≤ a → ⊥) → a ≤ l
+    le-of-not f = let g = lt-of-not-le f in omega arith
+
+regroup : (m P a b : ℕ) → P ≡ a * b → m * 1 * P ≡ m * a * b
+regroup m P a b e = omega (arith, ap (λ (y : ℕ). m * y) e)
+
+shift : (m a b c : ℕ) → a * b ≡ c → m * a * b ≡ m * c
+shift m a b c e = omega (arith, ap (λ (y : ℕ). m * y) e)
+
+place : (m : ℕ) (e : ℤ) → down e ≤ 2 ^ 1074 → (j : ℕ) × (m * up e * 2 ^ 1074 / down e ≡ m * 2 ^ j)
+place m (pos a) h = (a + 1074, div-one (m * 2 ^ a * 2 ^ 1074) ∙ shift m (2 ^ a) (2 ^ 1074) (2 ^ (a + 1074)) (sym (pow-add 2 a 1074)))
+place m (negsuc a) h =
+    let l : suc a ≤ 1074 = back (suc a) 1074 h in
+    (1074 - suc a, div-eq-of-eq-mul-left (pow-pos (suc a)) (regroup m (2 ^ 1074) (2 ^ (1074 - suc a)) (2 ^ suc a) (join (1074 - suc a) (suc a) 1074 (omega arith))))
+
+split : (x : Float) → T (fits binary64 x) → T (finite x) → (m : ℕ) × (j : ℕ) × (m < 2 ^ 53) × (units x ≡ m * 2 ^ j)
+unfolding units fits
+split nan h f = absurd f
+split (inf s) h f = absurd f
+split (fin s zero e) h f = (0, 0, omega arith, simp (zero-mul, zero-div))
+split (fin s (suc m) e) h f =
+    let A = eqb (suc m % 2) 1 in
+    let B = ltb (suc m) (2 ^ 53) in
+    let C = leb (down e) (2 ^ 1074) in
+    let ABC = and-l (A && B && C) (ltb (suc m * up e) (2 ^ 1024 * down e)) h in
+    let p = place (suc m) e (leb→le (down e) (2 ^ 1074) (and-r (A && B) C ABC)) in
+    (suc m, p .0, ltb→lt (suc m) (2 ^ 53) (and-r A B (and-l (A && B) C ABC)), p .1)
+
+-- ---- no value of the format lies between o * 2 ^ k and (o + 1) * 2 ^ k, for an o of 53 digits
+
+gap : (o k m j : ℕ) → 2 ^ 52 ≤ o → m < 2 ^ 53 → (m * 2 ^ j ≤ o * 2 ^ k) ⊎ ((o + 1) * 2 ^ k ≤ m * 2 ^ j)
+gap o k m j h l = go (decLe k j)
+  where
+    far : (w : ℕ) → w * 2 ^ k ≡ m * 2 ^ j → Dec (w ≤ o) → (m * 2 ^ j ≤ o * 2 ^ k) ⊎ ((o + 1) * 2 ^ k ≤ m * 2 ^ j)
+    far w e (yes g) = inl (rw e at (mul-le-mul-right (2 ^ k) g))
+    far w e (no g) = inr (rw e at (mul-le-mul-right (2 ^ k) (next (lt-of-not-le g))))
+      where
+        next : o < w → o + 1 ≤ w
+        next t = omega arith
+
+    go : Dec (k ≤ j) → (m * 2 ^ j ≤ o * 2 ^ k) ⊎ ((o + 1) * 2 ^ k ≤ m * 2 ^ j)
+    go (yes g) = far (m * 2 ^ (j - k)) (shift m (2 ^ (j - k)) (2 ^ k) (2 ^ j) (sym (join (j - k) k j (omega arith)))) (decLe (m * 2 ^ (j - k)) o)
+    go (no g) =
+        let t : suc j ≤ k = lt-of-not-le g in
+        let a : 2 ^ 52 * 2 ^ suc j ≤ o * 2 ^ k = mul-le-mul h (pow-mono t) in
+        let b : suc m * 2 ^ j ≤ 2 ^ 53 * 2 ^ j = mul-le-mul-right (2 ^ j) l in
+        inl (omega arith)
+
+-- ---- midpoints. N is n squares of u, and s is twice a midpoint
+
+module _ (s c u n N : ℕ) (p : 0 < u) (e : N ≡ n * (u * u)) where
+  over : c * u ≤ s → 4 * n < c * c → 4 * N < s * s
+  over a b = omega (arith, mul-le-mul a a, mul-lt-mul-of-pos-right b (mul-pos p p))
+
+  under : s ≤ c * u → c * c < 4 * n → s * s < 4 * N
+  under a b = omega (arith, mul-le-mul a a, mul-lt-mul-of-pos-right b (mul-pos p p))
+
+  under-edge : s < c * u → c * c ≤ 4 * n → s * s < 4 * N
+  under-edge a b = omega (arith, mul-le-mul a a, mul-le-mul-right (u * u) b)
+
+-- `Nearest` with no tie
+record Nearer (x r : Float) : Type 0 where
+  held : T (fits binary64 r)
+  above-zero : T (positive r)
+  from-below : (y : Float) → T (fits binary64 y) → T (finite y) → units y < units r → twiceMidpoint² y r < twiceRoot² x
+  from-above : (y : Float) → T (fits binary64 y) → T (finite y) → units r < units y → twiceRoot² x < twiceMidpoint² y r
+
+-- r is q * 2 ^ k units, and q is nearest to the root of n squares of 2 ^ k
+module _ (x r : Float) (n q k : ℕ) (h : Near n q) (lo : 2 ^ 104 ≤ n) (l : 2 ^ 52 ≤ q) (e : units x * 2 ^ 1074 ≡ n * 2 ^ (2 * k)) (v : units r ≡ q * 2 ^ k) where
+  squares : units x * 2 ^ 1074 ≡ n * (2 ^ k * 2 ^ k)
+  squares = e ∙ ap (λ (y : ℕ). n * y) (join k k (2 * k) (omega arith))
+
+  beside : (o : ℕ) → 2 ^ 52 ≤ o → (y : Float) → T (fits binary64 y) → T (finite y) → (units y ≤ o * 2 ^ k) ⊎ ((o + 1) * 2 ^ k ≤ units y)
+  beside o i y f g = let p = split y f g in rw (p .3) (gap o k (p .0) (p .1) i (p .2))
+
+  above : (y : Float) → T (fits binary64 y) → T (finite y) → units r < units y → twiceRoot² x < twiceMidpoint² y r
+  above y f g d = ⊎-elim
+      (λ z. absurd (omega arith))
+      (λ z. over (units y + units r) (2 * q + 1) (2 ^ k) n (units x * 2 ^ 1074) (pow-pos k) squares (omega arith) (omega arith))
+      (beside q l y f g)
+
+  -- the number before q, where √n lies below q
+  before : (o : ℕ) → q ≡ o + 1 → n < q * q → (y : Float) → T (fits binary64 y) → T (finite y) → units y < units r → twiceMidpoint² y r < twiceRoot² x
+  before o i b y f g d =
+      let s : q * q ≡ o * o + 2 * o + 1 = rw i (omega arith) in
+      let w : q * 2 ^ k ≡ (o + 1) * 2 ^ k = ap (λ (t : ℕ). t * 2 ^ k) i in
+      let j : 2 ^ 52 ≤ o = lt-of-not-le (λ (z : o ≤ 2 ^ 52 - 1). let z² = mul-le-mul z z in omega arith) in
+      ⊎-elim
+      (λ z. under (units y + units r) (2 * o + 1) (2 ^ k) n (units x * 2 ^ 1074) (pow-pos k) squares (omega arith) (omega arith))
+      (λ z. absurd (omega arith))
+      (beside o j y f g)
+
+  below : Dec (q * q ≤ n) → (y : Float) → T (fits binary64 y) → T (finite y) → units y < units r → twiceMidpoint² y r < twiceRoot² x
+  below (yes b) y f g d = under-edge (units y + units r) (2 * q) (2 ^ k) n (units x * 2 ^ 1074) (pow-pos k) squares (omega arith) (omega arith)
+  below (no b) y f g d = before (q - 1) (omega arith) (lt-of-not-le b) y f g d
+
+-- ---- the theorems
+
+-- the number of n units whose digits are q
+number : (q k : ℕ) → k < 2046 → 2 ^ 52 ≤ q → q < 2 ^ 53 → (units (odd 53 false q k 1074) ≡ q * 2 ^ k) × T (fits binary64 (odd 53 false q k 1074)) × T (positive (odd 53 false q k 1074))
+number q k l lo hi =
+    let v = odd-sign 53 false q k 1074 in (
+      units-of (odd 53 false q k 1074) (q * 2 ^ k) v,
+      rw (pattern k q l lo hi .1) at (ofBits-fits binary64 (k * 2 ^ 52 + q)),
+      positive-of-value (odd 53 false q k 1074) (q * 2 ^ k) (2 ^ 1074) v (mul-pos (lt-of-lt-of-le (pow-pos 52) lo) (pow-pos k)),
+    )
+
+scaled : (x : Float) (m k : ℕ) → 2 ^ 52 ≤ m → m + 2 ≤ 2 ^ 54 → k < 2046 → units x * 2 ^ 1074 ≡ m * 2 ^ 52 * 2 ^ (2 * k) → Nearer x (rootUnits (units x))
+scaled x m k lo hi l e =
+    let (q, h) = nearest-of (m * 2 ^ 52) (omega arith) in
+    let a = long m q h lo hi in
+    let z = short m q h lo hi in
+    let (v, f, g) = number q k l a z in
+    subst (Nearer x) (root-odd m k q lo hi l h (units x) e)
+    record {
+      held = f;
+      above-zero = g;
+      from-below = below x (odd 53 false q k 1074) (m * 2 ^ 52) q k h (omega arith) a e v (decLe (q * q) (m * 2 ^ 52));
+      from-above = above x (odd 53 false q k 1074) (m * 2 ^ 52) q k h (omega arith) a e v;
+    }
+
+nearer : (x : Float) → T (fits binary64 x) → T (positive x) → Nearer x (root x)
+unfolding root
+nearer nan h p = absurd p
+nearer (inf s) h p = absurd p
+nearer (fin true m e) h p = absurd p
+nearer (fin false zero e) h p = absurd p
+nearer (fin false (suc m) e) h p = go (decLe (2 ^ 52) b)
+  where
+    x : Float
+    x = fin false (suc m) e
+
+    b : ℕ
+    b = toBits binary64 x
+
+    z : ℕ
+    z = leadingZeros 64 b - 11
+
+    f : ℕ
+    f = b / 2 ^ 52 - 1
+
+    u : units x * 2 ^ 1074 ≡ patternUnits b * 2 ^ 1074
+    u = ap (λ (y : ℕ). y * 2 ^ 1074) (units-pattern x h (bits-lt m e h))
+
+    go : Dec (2 ^ 52 ≤ b) → Nearer x (rootUnits (units x))
+    go (yes l) =
+        let t = bits-lt m e h in
+        let w = at-most-twice (b - f * 2 ^ 52) f in
+        scaled x ((b - f * 2 ^ 52) * (f % 2 + 1)) (f / 2 + 511) (omega arith) (omega arith) (omega arith) (u ∙ normal-even b f (omega arith))
+    go (no l) =
+        let v = moved b (bits-pos m e h) (lt-of-not-le l) in
+        let w = at-most-twice (b * 2 ^ z) (52 - z) in
+        scaled x (b * 2 ^ z * ((52 - z) % 2 + 1)) ((52 - z) / 2 + 485) (omega arith) (omega arith) (omega arith) (u ∙ v .place)
+
+-- two that are not equal have one above the other
+apart : (i j : ℕ) → (i ≡ j → ⊥) → (i < j) ⊎ (j < i)
+apart i j h = go (decLe (suc i) j)
+  where
+    go : Dec (i < j) → (i < j) ⊎ (j < i)
+    go (yes l) = inl l
+    go (no l) = inr (lt-of-not-le (λ (g : i ≤ j). h (same g (lt-of-not-le l))))
+      where
+        same : i ≤ j → j < suc i → i ≡ j
+        same a b = omega arith
+
+pub no-tie : NoTie
+no-tie x y h p f g d t =
+    let n = nearer x h p in
+    ⊎-elim
+    (λ l. differ (n .from-below y f g l) t)
+    (λ l. differ (n .from-above y f g l) (sym t))
+    (apart (units y) (units (root x)) d)
+  where
+    differ : {i j : ℕ} → i < j → i ≡ j → ⊥
+    differ l e = omega arith
+
+pub none-nearer : NoneNearer
+none-nearer x h p =
+    let n = nearer x h p in
+    record {
+      held = n .held;
+      above-zero = n .above-zero;
+      from-below = λ y a b k. le-of-lt (n .from-below y a b k);
+      from-above = λ y a b k. le-of-lt (n .from-above y a b k);
+      even-at-tie = λ y a b d t. absurd (no-tie x y h p a b d t);
+    }
+
+-- a number above zero is its units
+same-bits : (m n : ℕ) (e d : ℤ) → units (fin false m e) ≡ units (fin false n d) → toBits binary64 (fin false m e) ≡ toBits binary64 (fin false n d)
+unfolding units toBits
+same-bits m n e d h = ap (λ (u : ℕ). 0 + (size u - 53) * 2 ^ 52 + u / 2 ^ (size u - 53)) h
+
+same-units : (x y : Float) → T (fits binary64 x) → T (fits binary64 y) → T (positive x) → T (positive y) → units x ≡ units y → x ≡ y
+same-units (fin false m e) (fin false n d) h k p q u = sym (ofBits-toBits binary64 (fin false m e) h) ∙ ap (ofBits binary64) (same-bits m n e d u) ∙ ofBits-toBits binary64 (fin false n d) k
+
+pub only-one : OnlyOne
+only-one x r h p a = go (decLe (units r) (units s)) (decLe (units s) (units r))
+  where
+    s : Float
+    s = root x
+
+    b : Nearer x s
+    b = nearer x h p
+
+    f : T (finite r)
+    f = positive-finite r (a .above-zero)
+
+    g : T (finite s)
+    g = positive-finite s (b .above-zero)
+
+    clash : (i j N : ℕ) → (j + i) * (j + i) < N → N ≤ (i + j) * (i + j) → ⊥
+    clash i j N l g = omega arith
+
+    clash′ : (i j N : ℕ) → N < (j + i) * (j + i) → (i + j) * (i + j) ≤ N → ⊥
+    clash′ i j N l g = omega arith
+
+    go : Dec (units r ≤ units s) → Dec (units s ≤ units r) → r ≡ s
+    go (yes i) (yes j) = same-units r s (a .held) (b .held) (a .above-zero) (b .above-zero) (omega arith)
+    go (yes i) (no j) = let l = lt-of-not-le j in absurd (clash (units s) (units r) (twiceRoot² x) (b .from-below r (a .held) f l) (a .from-above s (b .held) g l))
+    go (no i) j = let l = lt-of-not-le i in absurd (clash′ (units s) (units r) (twiceRoot² x) (b .from-above r (a .held) f l) (a .from-below s (b .held) g l))

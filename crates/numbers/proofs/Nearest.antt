@@ -9,7 +9,6 @@ use mathlib.Core.Bool.{true, false, _&&_}
 use lib.IntN.{ℤ, pos, negsuc}
 use lib.Dec.{T, leb, ltb, eqb, ltb→lt, leb→le}
 use lib.Pow.{pow-add, pow-pos, pow-mono, pow-lt}
-use lib.Count.{leadingZeros}
 use lib.Ieee.{Float, nan, inf, fin, binary64, up, down, size, fits, odd, ofBits, toBits}
 use lib.Ieee.Bits.{ofBits-toBits, ofBits-fits}
 use lib.Ieee.Fits.{and-l, and-r}
@@ -17,10 +16,10 @@ use lib.Ieee.Scale.{finite}
 use lib.Ieee.Positive.{positive, positive-finite, positive-of-value}
 use lib.Ieee.Exact.{odd-sign}
 use Rattle.numbers.specs.Sqrt.{units, floorRoot, root, rootUnits, twiceRoot², twiceMidpoint², Nearest, NoneNearer, NoTie, OnlyOne}
-use Rattle.numbers.specs.Parts.{Near, patternUnits}
+use Rattle.numbers.specs.Parts.{Near, Scale, patternUnits}
 use Rattle.numbers.proofs.Patterns.{pattern}
 use Rattle.numbers.proofs.Roots.{nearest-of, long, short}
-use Rattle.numbers.proofs.Scale.{at-most-twice, normal-even, root-odd}
+use Rattle.numbers.proofs.Scale.{normal-scale, root-odd}
 use Rattle.numbers.proofs.Values.{join, units-of, units-pattern, bits-lt, bits-pos, Moved, moved}
 
 -- ---- every value of the format is a number below 2 ^ 53 times a power of two, in units
@@ -135,18 +134,19 @@ number q k l lo hi =
       positive-of-value (odd 53 false q k 1074) (q * 2 ^ k) (2 ^ 1074) v (mul-pos (lt-of-lt-of-le (pow-pos 52) lo) (pow-pos k)),
     )
 
-scaled : (x : Float) (m k : ℕ) → 2 ^ 52 ≤ m → m + 2 ≤ 2 ^ 54 → k < 2046 → units x * 2 ^ 1074 ≡ m * 2 ^ 52 * 2 ^ (2 * k) → Nearer x (rootUnits (units x))
-scaled x m k lo hi l e =
-    let (q, h) = nearest-of (m * 2 ^ 52) (omega arith) in
-    let a = long m q h lo hi in
-    let z = short m q h lo hi in
-    let (v, f, g) = number q k l a z in
-    subst (Nearer x) (root-odd m k q lo hi l h (units x) e)
+scaled : (x : Float) (b m k : ℕ) → units x ≡ patternUnits b → Scale b m k → Nearer x (rootUnits (units x))
+scaled x b m k u s =
+    let (q, h) = nearest-of (m * 2 ^ 52) (omega (arith, s .low)) in
+    let a = long m q h (s .low) (s .high) in
+    let (v, f, g) = number q k (s .exponent) a (short m q h (s .low) (s .high)) in
+    let e = ap (λ (y : ℕ). y * 2 ^ 1074) u ∙ s .place in
+    let n : 2 ^ 104 ≤ m * 2 ^ 52 = omega (arith, s .low) in
+    subst (Nearer x) (root-odd m k q (s .low) (s .high) (s .exponent) h (units x) e)
     record {
       held = f;
       above-zero = g;
-      from-below = below x (odd 53 false q k 1074) (m * 2 ^ 52) q k h (omega arith) a e v (decLe (q * q) (m * 2 ^ 52));
-      from-above = above x (odd 53 false q k 1074) (m * 2 ^ 52) q k h (omega arith) a e v;
+      from-below = below x (odd 53 false q k 1074) (m * 2 ^ 52) q k h n a e v (decLe (q * q) (m * 2 ^ 52));
+      from-above = above x (odd 53 false q k 1074) (m * 2 ^ 52) q k h n a e v;
     }
 
 nearer : (x : Float) → T (fits binary64 x) → T (positive x) → Nearer x (root x)
@@ -155,32 +155,16 @@ nearer nan h p = absurd p
 nearer (inf s) h p = absurd p
 nearer (fin true m e) h p = absurd p
 nearer (fin false zero e) h p = absurd p
-nearer (fin false (suc m) e) h p = go (decLe (2 ^ 52) b)
+nearer (fin false (suc m) e) h p = go (toBits binary64 x) (units-pattern x h (bits-lt m e h)) (bits-pos m e h) (bits-lt m e h)
   where
     x : Float
     x = fin false (suc m) e
 
-    b : ℕ
-    b = toBits binary64 x
-
-    z : ℕ
-    z = leadingZeros 64 b - 11
-
-    f : ℕ
-    f = b / 2 ^ 52 - 1
-
-    u : units x * 2 ^ 1074 ≡ patternUnits b * 2 ^ 1074
-    u = ap (λ (y : ℕ). y * 2 ^ 1074) (units-pattern x h (bits-lt m e h))
-
-    go : Dec (2 ^ 52 ≤ b) → Nearer x (rootUnits (units x))
-    go (yes l) =
-        let t = bits-lt m e h in
-        let w = at-most-twice (b - f * 2 ^ 52) f in
-        scaled x ((b - f * 2 ^ 52) * (f % 2 + 1)) (f / 2 + 511) (omega arith) (omega arith) (omega arith) (u ∙ normal-even b f (omega arith))
-    go (no l) =
-        let v = moved b (bits-pos m e h) (lt-of-not-le l) in
-        let w = at-most-twice (b * 2 ^ z) (52 - z) in
-        scaled x (b * 2 ^ z * ((52 - z) % 2 + 1)) ((52 - z) / 2 + 485) (omega arith) (omega arith) (omega arith) (u ∙ v .place)
+    go : (b : ℕ) → units x ≡ patternUnits b → 0 < b → b < 0x7ff0_0000_0000_0000 → Nearer x (rootUnits (units x))
+    go b u o t = elim (decLe (2 ^ 52) b) [
+      | yes l ↦ scaled x b _ _ u (normal-scale b (b / 2 ^ 52 - 1) (omega arith) (omega arith))
+      | no l ↦ scaled x b _ _ u (moved b o (lt-of-not-le l) .scale)
+    ]
 
 -- two that are not equal have one above the other
 apart : (i j : ℕ) → (i ≡ j → ⊥) → (i < j) ⊎ (j < i)

@@ -9,7 +9,7 @@ use lib.Pow.{pow-add, pow-pos, pow-mono}
 use lib.Ieee.{binary64, size, odd, ofBits, nanBits}
 use lib.Ieee.Digits.{size-lt, size-le}
 use Rattle.numbers.specs.Sqrt.{rounded, rootUnits}
-use Rattle.numbers.specs.Parts.{Near, patternUnits}
+use Rattle.numbers.specs.Parts.{Near, Scale, patternUnits}
 use Rattle.numbers.proofs.Roots.{near-rounded, long, short}
 use Rattle.numbers.proofs.Patterns.{pattern}
 
@@ -56,7 +56,7 @@ even n m p e =
 pub at-most-twice : (m p : ℕ) → m * (p % 2) ≤ m * 1
 at-most-twice m p = mul-le-mul-left m (omega arith)
 
--- the same of a normal number's pattern, whose exponent's field is e + 1
+-- a normal number's pattern, whose exponent's field is e + 1
 pub normal-even : (b e : ℕ) → b / 2 ^ 52 ≡ e + 1 → patternUnits b * 2 ^ 1074 ≡ (b - e * 2 ^ 52) * (e % 2 + 1) * 2 ^ 52 * 2 ^ (2 * (e / 2 + 511))
 normal-even b e h =
     let f : b / 2 ^ 52 - 1 ≡ e = omega arith in
@@ -67,3 +67,8 @@ normal-even b e h =
   where
     lifted : (m e : ℕ) → m * 2 ^ e * 2 ^ 52 ≡ m * 2 ^ (e + 52)
     lifted m e = rw pow-add (omega arith)
+
+pub normal-scale : (b e : ℕ) → b / 2 ^ 52 ≡ e + 1 → e < 2046 → Scale b ((b - e * 2 ^ 52) * (e % 2 + 1)) (e / 2 + 511)
+normal-scale b e h l =
+    let t = at-most-twice (b - e * 2 ^ 52) e in
+    record { low = omega arith; high = omega arith; exponent = omega arith; place = normal-even b e h }

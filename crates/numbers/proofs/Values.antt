@@ -16,9 +16,9 @@ use lib.Ieee.Fits.{down-pos, and-r, kept-lt}
 use lib.Ieee.Exact.{HasValue, odd-sign}
 use lib.Ieee.Bits.{ofBits-toBits}
 use Rattle.numbers.specs.Sqrt.{units}
-use Rattle.numbers.specs.Parts.{patternUnits}
+use Rattle.numbers.specs.Parts.{Scale, patternUnits}
 use Rattle.numbers.proofs.Patterns.{normal, subnormal}
-use Rattle.numbers.proofs.Scale.{even}
+use Rattle.numbers.proofs.Scale.{even, at-most-twice}
 
 pub units-of : (x : Float) (a : ℕ) → HasValue x false a (2 ^ 1074) → units x ≡ a
 unfolding units
@@ -72,20 +72,25 @@ pub record Moved (b z : ℕ) : Type 0 where
   pub least : 11 ≤ z
   pub most : z ≤ 63
   pub kept : b * 2 ^ (z - 11) % 2 ^ 64 ≡ b * 2 ^ (z - 11)
-  pub low : 2 ^ 52 ≤ b * 2 ^ (z - 11)
-  pub high : b * 2 ^ (z - 11) < 2 ^ 53
-  pub place : patternUnits b * 2 ^ 1074 ≡ b * 2 ^ (z - 11) * ((52 - (z - 11)) % 2 + 1) * 2 ^ 52 * 2 ^ (2 * ((52 - (z - 11)) / 2 + 485))
+  pub scale : Scale b (b * 2 ^ (z - 11) * ((52 - (z - 11)) % 2 + 1)) ((52 - (z - 11)) / 2 + 485)
 
 pub moved : (b : ℕ) → 0 < b → b < 2 ^ 52 → Moved b (leadingZeros 64 b)
 moved b p h = go (leadingZeros 64 b) (leading-top 64 b p (omega arith))
   where
     go : (z : ℕ) → (j : ℕ) × (z + suc j ≡ 64) × (2 ^ j ≤ b) × (b < 2 ^ suc j) → Moved b z
     go z (j, e, l, u) =
+        let i = z - 11 in
         let jl : j < 52 = lt-of-not-le (λ (g : 52 ≤ j). let q : 2 ^ 52 ≤ 2 ^ j = pow-mono g in omega arith) in
-        let s : 2 ^ 52 ≡ 2 ^ j * 2 ^ (z - 11) = join j (z - 11) 52 (omega arith) in
-        let t : 2 ^ 52 ≡ 2 ^ (z - 11) * 2 ^ (52 - (z - 11)) = join (z - 11) (52 - (z - 11)) 52 (omega arith) in
-        let lo : 2 ^ 52 ≤ b * 2 ^ (z - 11) = rw s (mul-le-mul-right (2 ^ (z - 11)) l) in
+        let s : 2 ^ 52 ≡ 2 ^ j * 2 ^ i = join j i 52 (omega arith) in
+        let t : 2 ^ 52 ≡ 2 ^ i * 2 ^ (52 - i) = join i (52 - i) 52 (omega arith) in
+        let lo : 2 ^ 52 ≤ b * 2 ^ i = rw s (mul-le-mul-right (2 ^ i) l) in
         let u′ : b < 2 * 2 ^ j = omega arith in
-        let hi : b * 2 ^ (z - 11) < 2 ^ 53 = omega (arith, mul-lt-mul-of-pos-right u′ (pow-pos (z - 11))) in
-        let w : b * 1 * 2 ^ 52 ≡ b * 2 ^ (z - 11) * 2 ^ (52 - (z - 11)) = omega (arith, ap (λ (y : ℕ). b * y) t) in
-        record { least = omega arith; most = omega arith; kept = mod-eq-of-lt (omega arith); low = lo; high = hi; place = rw (low-units b h) (even (b * 1) (b * 2 ^ (z - 11)) (52 - (z - 11)) w) }
+        let hi : b * 2 ^ i < 2 ^ 53 = omega (arith, mul-lt-mul-of-pos-right u′ (pow-pos i)) in
+        let w : b * 1 * 2 ^ 52 ≡ b * 2 ^ i * 2 ^ (52 - i) = omega (arith, ap (λ (y : ℕ). b * y) t) in
+        let v = at-most-twice (b * 2 ^ i) (52 - i) in
+        record {
+          least = omega arith;
+          most = omega arith;
+          kept = mod-eq-of-lt (omega arith);
+          scale = record { low = omega arith; high = omega arith; exponent = omega arith; place = rw (low-units b h) (even (b * 1) (b * 2 ^ i) (52 - i) w) };
+        }

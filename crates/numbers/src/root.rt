@@ -5,9 +5,9 @@
 // √(m * 2^52), the root is q * 2^k units, whose pattern is k * 2^52 + q.
 ghost use mathlib.Core.Path.{_≡_};
 ghost use mathlib.Core.Bool.{true};
-ghost use Prim.Native.Nat.{ℕ, _+_, _*_, _/_, _^_, _≤_, _<_};
+ghost use Prim.Native.Nat.{ℕ, _+_, _*_, _/_, _%_, _^_, _≤_, _<_};
 ghost use Rattle.numbers.specs.Sqrt.{root, rootUnits};
-ghost use Rattle.numbers.specs.Parts.{Near, patternUnits};
+ghost use Rattle.numbers.specs.Parts.{Near, Scale, patternUnits};
 
 // The largest r with r * r ≤ n. Each turn takes two more binary digits of n and gives one of r; rest is what r * r leaves of those
 // taken.
@@ -113,26 +113,49 @@ fn near_one(b: u64) -> f64
     f64::from_bits((b + 0x3ff0_0000_0000_0000) / 2)
 }
 
-// The root of a normal number, whose exponent's field is e + 1.
-fn normal_root(x: f64, b: u64, e: u64) -> f64
-    requires { ⌜ (b / 2 ^ 52 ≡ e + 1) × (e < 2046) ⌝ }
-    ensures { λ r. ⌜ r ≡ rootUnits (patternUnits b) ⌝ }
-{
-    scaled_root(
-        (b - e * 4503599627370496) * (e % 2 + 1),
-        e / 2 + 511,
-        guess(x, b),
-    )
+// The root of a number of n units is to be found from m and k, where n * 2^1074 is m * 2^52 * 2^(2k), and from a guess.
+struct Scaled {
+    m: u64,
+    k: u64,
+    guess: f64,
 }
 
-// The root of a subnormal number: its digits are moved up to where a normal number's stand, and no guess is made.
-fn subnormal_root(b: u64) -> f64
+// A normal number, whose exponent's field is e + 1.
+fn scale_normal(x: f64, b: u64, e: u64) -> Scaled
+    requires { ⌜ (b / 2 ^ 52 ≡ e + 1) × (e < 2046) ⌝ }
+    ensures { λ r. ⌜ Scale b (r .m) (r .k) ⌝ }
+{
+    Scaled {
+        m: (b - e * 4503599627370496) * (e % 2 + 1),
+        k: e / 2 + 511,
+        guess: guess(x, b),
+    }
+}
+
+// A subnormal number: its digits are moved up to where a normal number's stand, and no guess is made.
+fn scale_subnormal(b: u64) -> Scaled
     requires { ⌜ (0 < b) × (b < 2 ^ 52) ⌝ }
-    ensures { λ r. ⌜ r ≡ rootUnits (patternUnits b) ⌝ }
+    ensures { λ r. ⌜ Scale b (r .m) (r .k) ⌝ }
 {
     let z = u64::leading_zeros(b) as u64 - 11;
     let p = 52 - z;
-    scaled_root((b << z) * (p % 2 + 1), p / 2 + 485, 0.0)
+    Scaled {
+        m: (b << z) * (p % 2 + 1),
+        k: p / 2 + 485,
+        guess: 0.0,
+    }
+}
+
+// e is one less than the exponent's field, and has wrapped at a subnormal number.
+fn scale(x: f64, b: u64, e: u64) -> Scaled
+    requires { ⌜ (0 < b) × (b < 0x7ff0_0000_0000_0000) × ((e + 1) % 2 ^ 64 ≡ b / 2 ^ 52) ⌝ }
+    ensures { λ r. ⌜ Scale b (r .m) (r .k) ⌝ }
+{
+    if e < 2046 {
+        scale_normal(x, b, e)
+    } else {
+        scale_subnormal(b)
+    }
 }
 
 // Of a number that is not above zero only a zero, -0.0 too, has a root.
@@ -145,13 +168,11 @@ pub fn sqrt(x: f64) -> f64
             return near_one(b);
         }
         let e = std::num::wrapping_sub_u64(b / 4503599627370496, 1);
-        if e < 2046 {
-            return normal_root(x, b, e);
-        }
         if e == 2046 {
             return x;
         }
-        return subnormal_root(b);
+        let s = scale(x, b, e);
+        return scaled_root(s.m, s.k, s.guess);
     }
     if x < 0.0 { 0.0 / 0.0 } else { x }
 }

@@ -8,9 +8,9 @@ use Rattle.numbers.specs.Sqrt.{root, rootUnits}
 use Rattle.numbers.specs.Parts.{patternUnits}
 use Rattle.numbers.proofs.Signs.{Negative, minus-infinity, minus, Positive, infinity, plus, Neither, no-number, nought, negative, positive, neither, no-nan}
 use Rattle.numbers.proofs.Values.{units-pattern, bits-lt, bits-pos}
-use borrow.Author.Needs.{needs}
 use Rattle.numbers.proofs.root.sqrt.Statement.{statement}
 use Rattle.numbers.proofs.root.sqrt.Tie as tie
+use borrow.Author.Needs.{needs}
 
 of-negative : {x : Float} → Negative x → div binary64 (ofBits binary64 0) (ofBits binary64 0) ≡ root x
 unfolding div ofBits root
@@ -66,26 +66,23 @@ returns c = c .near-one .ensures ∙ finite (c .before .before .before) (omega a
 wrapping-sub-u64-requires-2 : tie.Need-wrapping-sub-u64-requires-2
 wrapping-sub-u64-requires-2 c κs = search needs
 
-normal-root-requires : tie.Need-normal-root-requires
-normal-root-requires c κs = search needs
-
 returns-2 : tie.Need-returns-2
-returns-2 c = c .normal-root .ensures ∙ finite (c .before .before .before .before .before) (omega arith)
+returns-2 c = of-infinite (above (c .before .before .before .before)) (held (c .before .before .before .before .before)) (omega arith)
+
+scale-requires : tie.Need-scale-requires
+scale-requires c κs = omega (arith, within (c .before .before .before .before))
+
+scaled-root-requires : tie.Need-scaled-root-requires
+scaled-root-requires c κs = (c .scale .ensures .low, c .scale .ensures .high, c .scale .ensures .exponent)
 
 returns-3 : tie.Need-returns-3
-returns-3 c = of-infinite (above (c .before .before .before .before .before)) (held (c .before .before .before .before .before .before)) (omega arith)
-
-subnormal-root-requires : tie.Need-subnormal-root-requires
-subnormal-root-requires c κs = omega (arith, within (c .before .before .before .before .before))
+returns-3 c = c .scaled-root .ensures (patternUnits (toBits binary64 (c .before .before .before .before .before .before .before .args .x))) (c .before .scale .ensures .place) ∙ finite (c .before .before .before .before .before .before) (omega (arith, within (c .before .before .before .before .before .before)))
 
 returns-4 : tie.Need-returns-4
-returns-4 c = c .subnormal-root .ensures ∙ finite (c .before .before .before .before .before .before) (omega (arith, within (c .before .before .before .before .before .before)))
+returns-4 c = of-negative (negative (c .before .before .args .x) (c .if4 .taken))
 
 returns-5 : tie.Need-returns-5
-returns-5 c = of-negative (negative (c .before .before .args .x) (c .if5 .taken))
-
-returns-6 : tie.Need-returns-6
-returns-6 c = of-neither (neither (c .before .before .args .x) (c .if5 .left) (c .before .if1 .left))
+returns-5 c = of-neither (neither (c .before .before .args .x) (c .if4 .left) (c .before .if1 .left))
 
 pub sqrt-spec : {M : Type 1} → statement M
 sqrt-spec =
@@ -96,10 +93,9 @@ sqrt-spec =
     near-one-requires
     returns
     wrapping-sub-u64-requires-2
-    normal-root-requires
     returns-2
+    scale-requires
+    scaled-root-requires
     returns-3
-    subnormal-root-requires
     returns-4
-    returns-5
-    returns-6)
+    returns-5)

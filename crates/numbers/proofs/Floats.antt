@@ -1,33 +1,14 @@
--- Kinds of floats: what the comparisons say of a NaN, and what a pattern says of the sign. Assumes nothing.
-use mathlib.Core.Path.{_≡_, refl, sym, ap, _∙_}
-use Prim.Native.Nat.{ℕ, zero, suc, _+_, _*_, _/_, _%_, _^_, _<_}
+-- What a pattern says of the sign. Assumes nothing.
+use mathlib.Core.Path.{_≡_, refl}
+use Prim.Native.Nat.{ℕ, zero, suc, _+_, _^_, _<_}
 use native.Mathlib.Nat.{zero-mul, zero-div}
 use native.Mathlib.Omega.{arith}
-use mathlib.Core.Bool.{Bool, true, false, not, cond, false≢true}
+use mathlib.Core.Bool.{true, false, not, cond}
 use lib.IntN.{ℤ}
 use lib.Dec.{T}
-use borrow.Author.Tests.{eq-eqb}
-use lib.Ieee.{Float, nan, inf, fin, binary64, up, down, size, fits, isNan, lt, ne, toBits}
+use lib.Ieee.{Float, nan, inf, fin, binary64, size, fits, isNan, toBits}
 use Rattle.numbers.specs.Basic.{magnitude, negative}
 use Rattle.numbers.proofs.Values.{bits-lt}
-
-pub differs : (x : Float) → ne x x ≡ isNan x
-unfolding ne isNan
-differs nan = refl
-differs (inf true) = refl
-differs (inf false) = refl
-differs (fin true m e) = rw (eq-eqb (m * up e * down e) (m * up e * down e) refl)
-differs (fin false m e) = rw (eq-eqb (m * up e * down e) (m * up e * down e) refl)
-
-pub ordered : (x y : Float) → lt x y ≡ true → (isNan x ≡ false) × (isNan y ≡ false)
-unfolding lt isNan
-ordered nan y h = absurd (false≢true h)
-ordered (inf s) nan h = absurd (false≢true h)
-ordered (inf s) (inf t) h = (refl, refl)
-ordered (inf s) (fin t n d) h = (refl, refl)
-ordered (fin s m e) nan h = absurd (false≢true h)
-ordered (fin s m e) (inf t) h = (refl, refl)
-ordered (fin s m e) (fin t n d) h = (refl, refl)
 
 -- the sign is the pattern's first digit, and the others are the magnitude's
 zero-bits : (e : ℤ) → toBits binary64 (fin false zero e) ≡ 0

@@ -15,12 +15,12 @@ use lib.Ieee.Fits.{and-l, and-r}
 use lib.Ieee.Scale.{finite}
 use lib.Ieee.Positive.{positive, positive-finite, positive-of-value}
 use lib.Ieee.Exact.{odd-sign}
-use Rattle.numbers.specs.Sqrt.{units, floorRoot, root, rootUnits, twiceRoot², twiceMidpoint², Nearest, NoneNearer, NoTie, OnlyOne}
+use Rattle.numbers.specs.Sqrt.{units, root, rootUnits, twiceRoot², twiceMidpoint², Nearest, NoneNearer, NoTie, OnlyOne}
 use Rattle.numbers.specs.Parts.{Near, Scale, patternUnits}
 use Rattle.numbers.proofs.Patterns.{pattern}
 use Rattle.numbers.proofs.Roots.{nearest-of, long, short}
 use Rattle.numbers.proofs.Scale.{normal-scale, root-odd}
-use Rattle.numbers.proofs.Values.{join, units-of, units-pattern, bits-lt, bits-pos, Moved, moved}
+use Rattle.numbers.proofs.Values.{join, units-of, units-pattern, bits-lt, bits-pos, moved}
 
 -- ---- every value of the format is a number below 2 ^ 53 times a power of two, in units
 

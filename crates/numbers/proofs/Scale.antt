@@ -1,5 +1,5 @@
 -- The root of n units, where n * 2 ^ 1074 is m * 2 ^ 52 times an even power of two. Assumes nothing.
-use mathlib.Core.Path.{_≡_, sym, ap, _∙_}
+use mathlib.Core.Path.{_≡_, ap, _∙_}
 use Prim.Native.Nat.{ℕ, zero, suc, _+_, _-_, _*_, _/_, _%_, _^_, _≤_, _<_}
 use native.Mathlib.Nat.{le-trans, lt-of-lt-of-le, lt-of-not-le, lt-irrefl, mul-le-mul-left, mul-le-mul-right, mul-lt-mul-of-pos-right, mul-add}
 use native.Mathlib.Omega.{arith}

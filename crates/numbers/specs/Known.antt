@@ -1,9 +1,9 @@
 -- The rules at known values: one list, which one theorem covers. A row has a rule's value and what it should be, both by their bit patterns. Assumes nothing.
 use mathlib.Core.Path.{_≡_, refl}
-use mathlib.Core.Bool.{Bool, true, false}
+use mathlib.Core.Bool.{Bool, false}
 use mathlib.Core.List.{List, [], _∷_}
-use Prim.Native.Nat.{ℕ, _^_}
-use lib.Ieee.{Float, nan, inf, binary64, ofBits, toBits, round, add, sub, mul, div, neg, lt, le, eq, isNan}
+use Prim.Native.Nat.{ℕ}
+use lib.Ieee.{Float, nan, inf, binary64, ofBits, toBits, add, sub, mul, div, neg, lt, le, eq, isNan}
 use lib.Ieee.Scale.{finite}
 use Rattle.numbers.specs.Arithmetic.{_+ᶠ_, _-ᶠ_, _*ᶠ_, _/ᶠ_, _<ᶠ_, _≤ᶠ_, if_then_else_, decimal, 0f, ½, 1f, 1½, 2f, 4f, 1e-4, 1e-7, 1e-11, 1e-12, 1e-14, 1e-15, 1e-30}
 use Rattle.numbers.specs.Basic.{magnitude, negative, larger, clamped, infinite}

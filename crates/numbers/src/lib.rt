@@ -31,7 +31,7 @@ pub fn is_infinite(x: f64) -> bool
 pub fn abs(x: f64) -> f64
     ensures { λ r. ⌜ r ≡ magnitude x ⌝ }
 {
-    if x != x {
+    if is_nan(x) {
         return x;
     }
     f64::from_bits(f64::to_bits(x) % 0x8000_0000_0000_0000)
@@ -47,10 +47,10 @@ pub fn max(x: f64, y: f64) -> f64
     if y < x {
         return x;
     }
-    if x != x {
+    if is_nan(x) {
         return y;
     }
-    if y != y {
+    if is_nan(y) {
         return x;
     }
     if f64::to_bits(x) / 0x8000_0000_0000_0000 == 1 {

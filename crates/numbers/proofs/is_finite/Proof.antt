@@ -1,10 +1,9 @@
 -- `numbers::is_finite` meets its contract: a finite number less itself is 0, and any other is NaN. Assumes nothing.
 use mathlib.Core.Path.{_≡_, refl}
-use Prim.Native.Nat.{ℕ, _+_, _-_, _*_, _<_}
+use Prim.Native.Nat.{ℕ, _-_, _*_, _<_}
 use native.Mathlib.Nat.{mul-pos, sub-self}
 use native.Mathlib.Omega.{arith}
-use mathlib.Core.Bool.{Bool, true, false, not, _&&_}
-use lib.IntN.{ℤ}
+use mathlib.Core.Bool.{Bool, true, false, not}
 use borrow.Author.Tests.{le-ltb}
 use lib.Ieee.{Float, nan, inf, fin, binary64, up, down, round, sum, add, sub, neg, eq, ofBits}
 use lib.Ieee.Fits.{down-pos}

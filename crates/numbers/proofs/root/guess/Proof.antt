@@ -1,7 +1,7 @@
 -- `numbers::root::guess` is safe: its two patterns are no NaN's. Assumes nothing.
-use Prim.Native.Nat.{_-_, _/_, _%_}
+use Prim.Native.Nat.{_-_, _/_}
 use native.Mathlib.Omega.{arith}
-use lib.Ieee.{binary64, toBits}
+use lib.Ieee.{binary64}
 use lib.Ieee.Fits.{mul-fits}
 use Rattle.numbers.proofs.Patterns.{within, bounded}
 use Rattle.numbers.proofs.Signs.{positive, no-nan}

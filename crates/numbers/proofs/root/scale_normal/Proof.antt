@@ -1,6 +1,5 @@
 -- `numbers::root::scale_normal` meets its contract. Assumes nothing.
 use native.Mathlib.Omega.{arith}
-use Rattle.numbers.specs.Parts.{Scale}
 use Rattle.numbers.proofs.Scale.{normal-scale}
 use borrow.Author.Needs.{needs}
 use Rattle.numbers.proofs.root.scale_normal.Statement.{statement}

@@ -1,7 +1,6 @@
 -- `numbers::root::scale_subnormal` meets its contract: the digits, moved up, are `Moved` of `proofs/Values.antt`. Assumes nothing.
 use native.Mathlib.Omega.{arith}
 use lib.Count.{leadingZeros}
-use Rattle.numbers.specs.Parts.{Scale}
 use Rattle.numbers.proofs.Values.{Moved, moved}
 use borrow.Author.Needs.{needs}
 use Rattle.numbers.proofs.root.scale_subnormal.Statement.{statement}

@@ -1,6 +1,6 @@
 -- `numbers::root::whole_root` meets its contract. The invariant: r is the root of n with its last 2i digits left off, and rest is what it leaves; i is the measure. Assumes nothing.
 use mathlib.Core.Path.{_≡_, sym, ap, _∙_}
-use Prim.Native.Nat.{ℕ, suc, _+_, _-_, _*_, _/_, _%_, _^_, _≤_, _<_}
+use Prim.Native.Nat.{ℕ, _+_, _-_, _*_, _/_, _^_, _≤_, _<_}
 use native.Mathlib.Nat.{div-div-eq-div-mul, div-le-self, div-one}
 use native.Mathlib.Omega.{arith}
 use lib.Pow.{pow-add}

@@ -75,7 +75,7 @@ returns c r =
     let c₂ = (q * 2 + 1) % 2 ^ 22 in
     let d = c .before .before .wrapping-sub-u64 .result in
     let w = c .wrapping-sub-u642 .result in
-    let l = ltb-true w (a * 2 - 0x1f_fffd) r in
+    let l = ltb-true w _ r in
     near m q a c₂ d w (omega arith) (omega arith) (upper (c .before)) (omega (arith, of (c .before .before .before))) (omega (arith, long m a d (omega arith) (upper (c .before)) (omega arith)))
 
 returns-2 : tie.Need-returns-2

@@ -37,12 +37,12 @@ halved m s lo hi f =
       square = mul-le-mul-left _ l;
     }
 
-module _ (m s l u : ℕ) (h : Halved m s l u) where
-  down : u * 2 ^ 26 ≤ l * l + (s * 2 ^ 26 + l) → Near (m * 2 ^ 52) (s * 2 ^ 26 + l)
-  down g = omega (arith, h .division, h .square, h .floor)
+module _ (m s l u q : ℕ) (h : Halved m s l u) where
+  down : u * 2 ^ 26 ≤ l * l + (s * 2 ^ 26 + l) → q ≡ s * 2 ^ 26 + l → Near (m * 2 ^ 52) q
+  down g e = rw e (omega (arith, h .division, h .square, h .floor))
 
-  up : l * l + (s * 2 ^ 26 + l) < u * 2 ^ 26 → Near (m * 2 ^ 52) (s * 2 ^ 26 + l + 1)
-  up g = omega (arith, h .division, h .square, h .floor)
+  up : l * l + (s * 2 ^ 26 + l) < u * 2 ^ 26 → q ≡ s * 2 ^ 26 + l + 1 → Near (m * 2 ^ 52) q
+  up g e = rw e (omega (arith, h .division, h .square, h .floor))
 
 of : (c : tie.After-whole-root) → let s = c .whole-root .result in let d = (c .before .args .m - s * s) * 2 ^ 26 in Halved (c .before .args .m) s (d / (s * 2)) (d % (s * 2))
 of c = halved (c .before .args .m) (c .whole-root .result) (omega arith) (omega arith) (c .whole-root .ensures)
@@ -90,10 +90,10 @@ add-result : tie.Need-add-result
 add-result c = omega (arith, of (c .before))
 
 returns : tie.Need-returns
-returns c = up _ _ _ _ (of (c .before)) (omega arith)
+returns c = up _ _ _ _ _ (of (c .before)) (omega arith) (omega arith)
 
 returns-2 : tie.Need-returns-2
-returns-2 c = down _ _ _ _ (of (c .before)) (omega arith)
+returns-2 c = down _ _ _ _ _ (of (c .before)) (omega arith) (omega arith)
 
 pub nearest-root-spec : {M : Type 1} → statement M
 nearest-root-spec =

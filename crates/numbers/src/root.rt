@@ -9,6 +9,14 @@ ghost use Prim.Native.Nat.{ℕ, _+_, _*_, _/_, _%_, _^_, _≤_, _<_};
 ghost use Rattle.numbers.specs.Sqrt.{root, rootUnits};
 ghost use Rattle.numbers.specs.Parts.{Near, Scale, patternUnits};
 
+// 2^52: the weight of the exponent's field in a pattern.
+const FIELD: u64 = 0x10_0000_0000_0000;
+
+// The pattern of 1, and the one 2^27 below it.
+const ONE: u64 = 0x3ff0_0000_0000_0000;
+
+const BELOW_ONE: u64 = 0x3fef_ffff_f800_0000;
+
 // The largest r with r * r ≤ n. Each turn takes two more binary digits of n and gives one of r; rest is what r * r leaves of those
 // taken.
 fn whole_root(n: u64) -> u64
@@ -68,52 +76,30 @@ fn is_nearest(m: u64, q: u64) -> bool
 }
 
 // A float near √x, for an x whose pattern is b: the nearest but for about one in two thousand. Nothing is promised of it.
+// bench/fit-guess says where the numbers come from.
 fn guess(x: f64, b: u64) -> f64
     requires { ⌜ b < 0x7ff0_0000_0000_0000 ⌝ }
 {
-    // y is near 0.85 / √x, and a cubic in x * y * y makes good what that differs by: h is √x, to 21 binary digits
+    // y is near 0.85 / √x, and a cubic in x * y * y makes good what that differs by: h is √x to 21 binary digits
     let y = f64::from_bits(0x5fe2_cc00_0000_0000 - b / 2);
     let a = x * y;
-    let k = a * y - 0.601015116953232;
-    let l = 1.2117679657337508 - k;
-    let p = k * k + 1.064291527225849;
+    let k = a * y - 0.6010151147814349;
+    let l = 1.2117679640007424 - k;
+    let p = k * k + 1.0642915305663447;
     let h = a * l * p;
     if h > 0.0 {
-        // g has h's upper 26 digits, so that x - g * g is exact; j is 1 / (2√x), and j * (7/4 - (g + √x / 2) * j) is 1 / (√x + g)
+        // g has h's upper 26 digits, so that x - g * g is exact, and √x is g + (x - g * g) / (√x + g); half is √x / 2, j is 1 / (2√x),
+        // and j * (7/4 - (g + half) * j) is 1 / (√x + g) to 41 digits
         let bits = f64::to_bits(h);
         let g = f64::from_bits(bits - bits % 0x800_0000);
         let half = a * 0.5 * l * p;
         let j = y * 0.5 * l * p;
-        return g + (x - g * g) * j * (1.7500000000003 - (g + half) * j);
+        return g + (x - g * g) * j * (1.7500000000002907 - (g + half) * j);
     }
     h
 }
 
-// The root of n units, where n * 2^1074 is m * 2^52 * 2^(2k): g, if it is seen to be that.
-fn scaled_root(m: u64, k: u64, g: f64) -> f64
-    requires { ⌜ (2 ^ 52 ≤ m) × (m + 2 ≤ 2 ^ 54) × (k < 2046) ⌝ }
-    ensures { λ r. ⌜ ((n : ℕ) → n * 2 ^ 1074 ≡ m * 2 ^ 52 * 2 ^ (2 * k) → r ≡ rootUnits n) ⌝ }
-{
-    if g > 0.0 {
-        if is_nearest(
-            m,
-            std::num::wrapping_sub_u64(f64::to_bits(g), k * 4503599627370496),
-        ) {
-            return g;
-        }
-    }
-    f64::from_bits(k * 4503599627370496 + nearest_root(m))
-}
-
-// The root of a number within 2^27 units in the last place of 1: halfway from 1, and one unit down where that is between two.
-fn near_one(b: u64) -> f64
-    requires { ⌜ (0x3fef_ffff_f800_0000 ≤ b) × (b < 0x3ff0_0000_0800_0000) ⌝ }
-    ensures { λ r. ⌜ r ≡ rootUnits (patternUnits b) ⌝ }
-{
-    f64::from_bits((b + 0x3ff0_0000_0000_0000) / 2)
-}
-
-// The root of a number of n units is to be found from m and k, where n * 2^1074 is m * 2^52 * 2^(2k), and from a guess.
+// A number of n units, where n * 2^1074 is m * 2^52 * 2^(2k), and a guess at its root, or 0.
 struct Scaled {
     m: u64,
     k: u64,
@@ -126,7 +112,7 @@ fn scale_normal(x: f64, b: u64, e: u64) -> Scaled
     ensures { λ r. ⌜ Scale b (r .m) (r .k) ⌝ }
 {
     Scaled {
-        m: (b - e * 4503599627370496) * (e % 2 + 1),
+        m: (b - e * FIELD) * (e % 2 + 1),
         k: e / 2 + 511,
         guess: guess(x, b),
     }
@@ -158,16 +144,38 @@ fn scale(x: f64, b: u64, e: u64) -> Scaled
     }
 }
 
+// The root of n units, where n * 2^1074 is m * 2^52 * 2^(2k): g, if it is seen to be that.
+fn scaled_root(m: u64, k: u64, g: f64) -> f64
+    requires { ⌜ (2 ^ 52 ≤ m) × (m + 2 ≤ 2 ^ 54) × (k < 2046) ⌝ }
+    ensures { λ r. ⌜ ((n : ℕ) → n * 2 ^ 1074 ≡ m * 2 ^ 52 * 2 ^ (2 * k) → r ≡ rootUnits n) ⌝ }
+{
+    if g > 0.0 {
+        let q = std::num::wrapping_sub_u64(f64::to_bits(g), k * FIELD);
+        if is_nearest(m, q) {
+            return g;
+        }
+    }
+    f64::from_bits(k * FIELD + nearest_root(m))
+}
+
+// The root of a number within 2^27 units in the last place of 1: halfway from 1, and one unit down where that is between two.
+fn near_one(b: u64) -> f64
+    requires { ⌜ (0x3fef_ffff_f800_0000 ≤ b) × (b < 0x3ff0_0000_0800_0000) ⌝ }
+    ensures { λ r. ⌜ r ≡ rootUnits (patternUnits b) ⌝ }
+{
+    f64::from_bits((b + ONE) / 2)
+}
+
 // Of a number that is not above zero only a zero, -0.0 too, has a root.
 pub fn sqrt(x: f64) -> f64
     ensures { λ r. ⌜ r ≡ root x ⌝ }
 {
     if x > 0.0 {
         let b = f64::to_bits(x);
-        if std::num::wrapping_sub_u64(b, 0x3fef_ffff_f800_0000) < 0x1000_0000 {
+        if std::num::wrapping_sub_u64(b, BELOW_ONE) < 0x1000_0000 {
             return near_one(b);
         }
-        let e = std::num::wrapping_sub_u64(b / 4503599627370496, 1);
+        let e = std::num::wrapping_sub_u64(b / FIELD, 1);
         if e == 2046 {
             return x;
         }

@@ -7,15 +7,14 @@ use native.Mathlib.Decide.{decLe}
 use native.Mathlib.Omega.{arith}
 use mathlib.Core.Bool.{true, false, _&&_}
 use lib.IntN.{ℤ, pos, negsuc}
-use lib.Dec.{T, leb, ltb, eqb, ltb→lt, leb→le}
+use lib.Dec.{leb, ltb, eqb, ltb→lt, leb→le}
 use lib.Pow.{pow-add, pow-pos, pow-mono, pow-lt}
 use lib.Ieee.{Float, nan, inf, fin, binary64, up, down, size, fits, odd, ofBits, toBits}
 use lib.Ieee.Bits.{ofBits-toBits, ofBits-fits}
 use lib.Ieee.Fits.{and-l, and-r}
-use lib.Ieee.Scale.{finite}
-use lib.Ieee.Positive.{positive, positive-finite, positive-of-value}
+use lib.Ieee.Positive.{positive-finite, positive-of-value}
 use lib.Ieee.Exact.{odd-sign}
-use Rattle.numbers.specs.Sqrt.{units, root, rootUnits, twiceRoot², twiceMidpoint², Nearest, NoneNearer, NoTie, OnlyOne}
+use Rattle.numbers.specs.Sqrt.{units, root, Number, AboveZero, rootUnits, twiceRoot², twiceMidpoint², Nearest, NoneNearer, NoTie, OnlyOne}
 use Rattle.numbers.specs.Parts.{Near, Scale, patternUnits}
 use Rattle.numbers.proofs.Patterns.{pattern}
 use Rattle.numbers.proofs.Roots.{nearest-of, long, short}
@@ -42,12 +41,12 @@ place m (negsuc a) h =
     let l : suc a ≤ 1074 = back (suc a) 1074 h in
     (1074 - suc a, div-eq-of-eq-mul-left (pow-pos (suc a)) (regroup m (2 ^ 1074) (2 ^ (1074 - suc a)) (2 ^ suc a) (join (1074 - suc a) (suc a) 1074 (omega arith))))
 
-split : (x : Float) → T (fits binary64 x) → T (finite x) → (m : ℕ) × (j : ℕ) × (m < 2 ^ 53) × (units x ≡ m * 2 ^ j)
+split : (x : Float) → Number x → (m : ℕ) × (j : ℕ) × (m < 2 ^ 53) × (units x ≡ m * 2 ^ j)
 unfolding units fits
-split nan h f = absurd f
-split (inf s) h f = absurd f
-split (fin s zero e) h f = (0, 0, omega arith, simp (zero-mul, zero-div))
-split (fin s (suc m) e) h f =
+split nan (h, f) = absurd f
+split (inf s) (h, f) = absurd f
+split (fin s zero e) (h, f) = (0, 0, omega arith, simp (zero-mul, zero-div))
+split (fin s (suc m) e) (h, f) =
     let A = eqb (suc m % 2) 1 in
     let B = ltb (suc m) (2 ^ 53) in
     let C = leb (down e) (2 ^ 1074) in
@@ -89,73 +88,70 @@ module _ (s c u n N : ℕ) (p : 0 < u) (e : N ≡ n * (u * u)) where
 
 -- `Nearest` with no tie
 record Nearer (x r : Float) : Type 0 where
-  held : T (fits binary64 r)
-  above-zero : T (positive r)
-  from-below : (y : Float) → T (fits binary64 y) → T (finite y) → units y < units r → twiceMidpoint² y r < twiceRoot² x
-  from-above : (y : Float) → T (fits binary64 y) → T (finite y) → units r < units y → twiceRoot² x < twiceMidpoint² y r
+  above-zero : AboveZero r
+  from-below : (y : Float) → Number y → units y < units r → twiceMidpoint² y r < twiceRoot² x
+  from-above : (y : Float) → Number y → units r < units y → twiceRoot² x < twiceMidpoint² y r
 
 -- r is q * 2 ^ k units, and q is nearest to the root of n squares of 2 ^ k
 module _ (x r : Float) (n q k : ℕ) (h : Near n q) (lo : 2 ^ 104 ≤ n) (l : 2 ^ 52 ≤ q) (e : units x * 2 ^ 1074 ≡ n * 2 ^ (2 * k)) (v : units r ≡ q * 2 ^ k) where
   squares : units x * 2 ^ 1074 ≡ n * (2 ^ k * 2 ^ k)
   squares = e ∙ ap (λ (y : ℕ). n * y) (join k k (2 * k) (omega arith))
 
-  beside : (o : ℕ) → 2 ^ 52 ≤ o → (y : Float) → T (fits binary64 y) → T (finite y) → (units y ≤ o * 2 ^ k) ⊎ ((o + 1) * 2 ^ k ≤ units y)
-  beside o i y f g = let p = split y f g in rw (p .3) (gap o k (p .0) (p .1) i (p .2))
+  beside : (o : ℕ) → 2 ^ 52 ≤ o → (y : Float) → Number y → (units y ≤ o * 2 ^ k) ⊎ ((o + 1) * 2 ^ k ≤ units y)
+  beside o i y f = let p = split y f in rw (p .3) (gap o k (p .0) (p .1) i (p .2))
 
-  above : (y : Float) → T (fits binary64 y) → T (finite y) → units r < units y → twiceRoot² x < twiceMidpoint² y r
-  above y f g d = ⊎-elim
+  above : (y : Float) → Number y → units r < units y → twiceRoot² x < twiceMidpoint² y r
+  above y f d = ⊎-elim
       (λ z. absurd (omega arith))
       (λ z. over (units y + units r) (2 * q + 1) (2 ^ k) n (units x * 2 ^ 1074) (pow-pos k) squares (omega arith) (omega arith))
-      (beside q l y f g)
+      (beside q l y f)
 
   -- the number before q, where √n lies below q
-  before : (o : ℕ) → q ≡ o + 1 → n < q * q → (y : Float) → T (fits binary64 y) → T (finite y) → units y < units r → twiceMidpoint² y r < twiceRoot² x
-  before o i b y f g d =
+  before : (o : ℕ) → q ≡ o + 1 → n < q * q → (y : Float) → Number y → units y < units r → twiceMidpoint² y r < twiceRoot² x
+  before o i b y f d =
       let s : q * q ≡ o * o + 2 * o + 1 = rw i (omega arith) in
       let w : q * 2 ^ k ≡ (o + 1) * 2 ^ k = ap (λ (t : ℕ). t * 2 ^ k) i in
       let j : 2 ^ 52 ≤ o = lt-of-not-le (λ (z : o ≤ 2 ^ 52 - 1). let z² = mul-le-mul z z in omega arith) in
       ⊎-elim
       (λ z. under (units y + units r) (2 * o + 1) (2 ^ k) n (units x * 2 ^ 1074) (pow-pos k) squares (omega arith) (omega arith))
       (λ z. absurd (omega arith))
-      (beside o j y f g)
+      (beside o j y f)
 
-  below : Dec (q * q ≤ n) → (y : Float) → T (fits binary64 y) → T (finite y) → units y < units r → twiceMidpoint² y r < twiceRoot² x
-  below (yes b) y f g d = under-edge (units y + units r) (2 * q) (2 ^ k) n (units x * 2 ^ 1074) (pow-pos k) squares (omega arith) (omega arith)
-  below (no b) y f g d = before (q - 1) (omega arith) (lt-of-not-le b) y f g d
+  below : Dec (q * q ≤ n) → (y : Float) → Number y → units y < units r → twiceMidpoint² y r < twiceRoot² x
+  below (yes b) y f d = under-edge (units y + units r) (2 * q) (2 ^ k) n (units x * 2 ^ 1074) (pow-pos k) squares (omega arith) (omega arith)
+  below (no b) y f d = before (q - 1) (omega arith) (lt-of-not-le b) y f d
 
 -- ---- the theorems
 
 -- the number of n units whose digits are q
-number : (q k : ℕ) → k < 2046 → 2 ^ 52 ≤ q → q < 2 ^ 53 → (units (odd 53 false q k 1074) ≡ q * 2 ^ k) × T (fits binary64 (odd 53 false q k 1074)) × T (positive (odd 53 false q k 1074))
+number : (q k : ℕ) → k < 2046 → 2 ^ 52 ≤ q → q < 2 ^ 53 → (units (odd 53 false q k 1074) ≡ q * 2 ^ k) × AboveZero (odd 53 false q k 1074)
 number q k l lo hi =
-    let v = odd-sign 53 false q k 1074 in (
-      units-of (odd 53 false q k 1074) (q * 2 ^ k) v,
-      rw (pattern k q l lo hi .1) at (ofBits-fits binary64 (k * 2 ^ 52 + q)),
-      positive-of-value (odd 53 false q k 1074) (q * 2 ^ k) (2 ^ 1074) v (mul-pos (lt-of-lt-of-le (pow-pos 52) lo) (pow-pos k)),
-    )
+    let v = odd-sign 53 false q k 1074 in
+    let f = rw (pattern k q l lo hi .1) at (ofBits-fits binary64 (k * 2 ^ 52 + q)) in
+    let g = positive-of-value (odd 53 false q k 1074) (q * 2 ^ k) (2 ^ 1074) v (mul-pos (lt-of-lt-of-le (pow-pos 52) lo) (pow-pos k)) in
+    (units-of (odd 53 false q k 1074) (q * 2 ^ k) v, (f, g))
 
 scaled : (x : Float) (b m k : ℕ) → units x ≡ patternUnits b → Scale b m k → Nearer x (rootUnits (units x))
 scaled x b m k u s =
     let (q, h) = nearest-of (m * 2 ^ 52) (omega (arith, s .low)) in
     let a = long m q h (s .low) (s .high) in
-    let (v, f, g) = number q k (s .exponent) a (short m q h (s .low) (s .high)) in
+    let (v, f) = number q k (s .exponent) a (short m q h (s .low) (s .high)) in
     let e = ap (λ (y : ℕ). y * 2 ^ 1074) u ∙ s .place in
     let n : 2 ^ 104 ≤ m * 2 ^ 52 = omega (arith, s .low) in
     subst (Nearer x) (root-odd m k q (s .low) (s .high) (s .exponent) h (units x) e)
     record {
-      held = f;
-      above-zero = g;
+      above-zero = f;
       from-below = below x (odd 53 false q k 1074) (m * 2 ^ 52) q k h n a e v (decLe (q * q) (m * 2 ^ 52));
       from-above = above x (odd 53 false q k 1074) (m * 2 ^ 52) q k h n a e v;
     }
 
-nearer : (x : Float) → T (fits binary64 x) → T (positive x) → Nearer x (root x)
+nearer : (x : Float) → AboveZero x → Nearer x (root x)
 unfolding root
-nearer nan h p = absurd p
-nearer (inf s) h p = absurd p
-nearer (fin true m e) h p = absurd p
-nearer (fin false zero e) h p = absurd p
-nearer (fin false (suc m) e) h p = go (toBits binary64 x) (units-pattern x h (bits-lt m e h)) (bits-pos m e h) (bits-lt m e h)
+nearer nan (h, p) = absurd p
+nearer (inf s) (h, p) = absurd p
+nearer (fin true m e) (h, p) = absurd p
+nearer (fin false zero e) (h, p) = absurd p
+nearer (fin false (suc m) e) (h, p) = go (toBits binary64 x) (units-pattern x h (bits-lt m e h)) (bits-pos m e h) (bits-lt m e h)
   where
     x : Float
     x = fin false (suc m) e
@@ -178,25 +174,21 @@ apart i j h = go (decLe (suc i) j)
         same a b = omega arith
 
 pub no-tie : NoTie
-no-tie x y h p f g d t =
-    let n = nearer x h p in
-    ⊎-elim
-    (λ l. differ (n .from-below y f g l) t)
-    (λ l. differ (n .from-above y f g l) (sym t))
-    (apart (units y) (units (root x)) d)
+no-tie x y h f d t =
+    let n = nearer x h in
+    ⊎-elim (λ l. differ (n .from-below y f l) t) (λ l. differ (n .from-above y f l) (sym t)) (apart (units y) (units (root x)) d)
   where
     differ : {i j : ℕ} → i < j → i ≡ j → ⊥
     differ l e = omega arith
 
 pub none-nearer : NoneNearer
-none-nearer x h p =
-    let n = nearer x h p in
+none-nearer x h =
+    let n = nearer x h in
     record {
-      held = n .held;
       above-zero = n .above-zero;
-      from-below = λ y a b k. le-of-lt (n .from-below y a b k);
-      from-above = λ y a b k. le-of-lt (n .from-above y a b k);
-      even-at-tie = λ y a b d t. absurd (no-tie x y h p a b d t);
+      from-below = λ y f l. le-of-lt (n .from-below y f l);
+      from-above = λ y f l. le-of-lt (n .from-above y f l);
+      even-at-tie = λ y f d t. absurd (no-tie x y h f d t);
     }
 
 -- a number above zero is its units
@@ -204,23 +196,23 @@ same-bits : (m n : ℕ) (e d : ℤ) → units (fin false m e) ≡ units (fin fal
 unfolding units toBits
 same-bits m n e d h = ap (λ (u : ℕ). 0 + (size u - 53) * 2 ^ 52 + u / 2 ^ (size u - 53)) h
 
-same-units : (x y : Float) → T (fits binary64 x) → T (fits binary64 y) → T (positive x) → T (positive y) → units x ≡ units y → x ≡ y
-same-units (fin false m e) (fin false n d) h k p q u = sym (ofBits-toBits binary64 (fin false m e) h) ∙ ap (ofBits binary64) (same-bits m n e d u) ∙ ofBits-toBits binary64 (fin false n d) k
+same-units : (x y : Float) → AboveZero x → AboveZero y → units x ≡ units y → x ≡ y
+same-units (fin false m e) (fin false n d) (h, p) (k, q) u = sym (ofBits-toBits binary64 (fin false m e) h) ∙ ap (ofBits binary64) (same-bits m n e d u) ∙ ofBits-toBits binary64 (fin false n d) k
 
 pub only-one : OnlyOne
-only-one x r h p a = go (decLe (units r) (units s)) (decLe (units s) (units r))
+only-one x r h a = go (decLe (units r) (units s)) (decLe (units s) (units r))
   where
     s : Float
     s = root x
 
     b : Nearer x s
-    b = nearer x h p
+    b = nearer x h
 
-    f : T (finite r)
-    f = positive-finite r (a .above-zero)
+    f : Number r
+    f = (a .above-zero .0, positive-finite r (a .above-zero .1))
 
-    g : T (finite s)
-    g = positive-finite s (b .above-zero)
+    g : Number s
+    g = (b .above-zero .0, positive-finite s (b .above-zero .1))
 
     clash : (i j N : ℕ) → (j + i) * (j + i) < N → N ≤ (i + j) * (i + j) → ⊥
     clash i j N l g = omega arith
@@ -229,6 +221,6 @@ only-one x r h p a = go (decLe (units r) (units s)) (decLe (units s) (units r))
     clash′ i j N l g = omega arith
 
     go : Dec (units r ≤ units s) → Dec (units s ≤ units r) → r ≡ s
-    go (yes i) (yes j) = same-units r s (a .held) (b .held) (a .above-zero) (b .above-zero) (omega arith)
-    go (yes i) (no j) = let l = lt-of-not-le j in absurd (clash (units s) (units r) (twiceRoot² x) (b .from-below r (a .held) f l) (a .from-above s (b .held) g l))
-    go (no i) j = let l = lt-of-not-le i in absurd (clash′ (units s) (units r) (twiceRoot² x) (b .from-above r (a .held) f l) (a .from-below s (b .held) g l))
+    go (yes i) (yes j) = same-units r s (a .above-zero) (b .above-zero) (omega arith)
+    go (yes i) (no j) = let l = lt-of-not-le j in absurd (clash (units s) (units r) (twiceRoot² x) (b .from-below r f l) (a .from-above s g l))
+    go (no i) j = let l = lt-of-not-le i in absurd (clash′ (units s) (units r) (twiceRoot² x) (b .from-above r f l) (a .from-below s g l))

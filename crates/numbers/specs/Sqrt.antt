@@ -53,6 +53,13 @@ root (fin false (suc m) e) = rootUnits (units (fin false (suc m) e))
 
 -- ---- what is proved of it
 
+-- A finite binary64, and one above zero.
+abbrev pub Number : Float → Type 0
+Number y = T (fits binary64 y) × T (finite y)
+
+abbrev pub AboveZero : Float → Type 0
+AboveZero x = T (fits binary64 x) × T (positive x)
+
 -- Twice √x and twice the midpoint of y and r, both squared, in squares of the unit.
 abbrev pub twiceRoot² : Float → ℕ
 twiceRoot² x = 4 * (units x * 2 ^ 1074)
@@ -60,13 +67,12 @@ twiceRoot² x = 4 * (units x * 2 ^ 1074)
 abbrev pub twiceMidpoint² : Float → Float → ℕ
 twiceMidpoint² y r = (units y + units r) * (units y + units r)
 
--- r is nearest to √x, for an x above zero: √x lies on r's side of the midpoint of r and any other finite binary64, or on the midpoint, and then r's last digit is even.
+-- r is nearest to √x: √x lies on r's side of the midpoint of r and any other number y, or on the midpoint, and then r's last digit is even.
 pub record Nearest (x r : Float) : Type 0 where
-  pub held : T (fits binary64 r)
-  pub above-zero : T (positive r)
-  pub from-below : (y : Float) → T (fits binary64 y) → T (finite y) → units y < units r → twiceMidpoint² y r ≤ twiceRoot² x
-  pub from-above : (y : Float) → T (fits binary64 y) → T (finite y) → units r < units y → twiceRoot² x ≤ twiceMidpoint² y r
-  pub even-at-tie : (y : Float) → T (fits binary64 y) → T (finite y) → (units y ≡ units r → ⊥) → twiceMidpoint² y r ≡ twiceRoot² x → toBits binary64 r % 2 ≡ 0
+  pub above-zero : AboveZero r
+  pub from-below : (y : Float) → Number y → units y < units r → twiceMidpoint² y r ≤ twiceRoot² x
+  pub from-above : (y : Float) → Number y → units r < units y → twiceRoot² x ≤ twiceMidpoint² y r
+  pub even-at-tie : (y : Float) → Number y → (units y ≡ units r → ⊥) → twiceMidpoint² y r ≡ twiceRoot² x → toBits binary64 r % 2 ≡ 0
 
 -- `floorRoot` is the largest whole number whose square is not above n.
 abbrev pub FloorRoot : Type 0
@@ -74,12 +80,12 @@ FloorRoot = (n : ℕ) → (floorRoot n * floorRoot n ≤ n) × (n < (floorRoot n
 
 -- No binary64 lies nearer to √x than `root x`.
 abbrev pub NoneNearer : Type 0
-NoneNearer = (x : Float) → T (fits binary64 x) → T (positive x) → Nearest x (root x)
+NoneNearer = (x : Float) → AboveZero x → Nearest x (root x)
 
 -- No tie arises: √x is the midpoint of `root x` and no other binary64.
 abbrev pub NoTie : Type 0
-NoTie = (x y : Float) → T (fits binary64 x) → T (positive x) → T (fits binary64 y) → T (finite y) → (units y ≡ units (root x) → ⊥) → twiceMidpoint² y (root x) ≡ twiceRoot² x → ⊥
+NoTie = (x y : Float) → AboveZero x → Number y → (units y ≡ units (root x) → ⊥) → twiceMidpoint² y (root x) ≡ twiceRoot² x → ⊥
 
 -- Only one value is nearest.
 abbrev pub OnlyOne : Type 0
-OnlyOne = (x r : Float) → T (fits binary64 x) → T (positive x) → Nearest x r → r ≡ root x
+OnlyOne = (x r : Float) → AboveZero x → Nearest x r → r ≡ root x

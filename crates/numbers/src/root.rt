@@ -75,7 +75,7 @@ fn is_nearest(m: u64, q: u64) -> bool
     false
 }
 
-// A float near √x, for an x whose pattern is b: the nearest but for about one in two thousand. Nothing is promised of it.
+// A float near √x, for an x whose pattern is b: the nearest but for about one in four thousand. Nothing is promised of it.
 // bench/fit-guess says where the numbers come from.
 fn guess(x: f64, b: u64) -> f64
     requires { ⌜ b < 0x7ff0_0000_0000_0000 ⌝ }

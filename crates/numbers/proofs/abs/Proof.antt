@@ -1,9 +1,10 @@
 -- `numbers::abs` meets its contract: the pattern without its first digit is the magnitude's. Assumes nothing.
 use borrow.Author.Needs.{needs}
-use mathlib.Core.Path.{_≡_, refl, sym, ap, _∙_, subst}
+use mathlib.Core.Path.{_≡_, refl, sym, ap, _∙_}
 use Prim.Native.Nat.{ℕ, _+_, _%_, _^_, _<_}
 use native.Mathlib.Omega.{arith}
 use mathlib.Core.Bool.{Bool, true, false, not, cond, false≢true}
+use denote.Floats.{passes}
 use lib.Dec.{T}
 use lib.Ieee.{Float, nan, inf, fin, binary64, fits, isNan, ofBits, toBits}
 use lib.Ieee.Bits.{ofBits-toBits}
@@ -24,10 +25,10 @@ rest true b d e l = omega arith
 rest false b d e l = omega arith
 
 number : (c : tie.Else1) → T (not (isNan (c .before .before .args .x)))
-number c = subst (λ (b : Bool). T (not b)) (sym (sym (c .before .is-nan .ensures) ∙ c .if1 .left)) tt
+number c = rw (sym (c .before .is-nan .ensures) ∙ c .if1 .left) tt
 
 held : (c : tie.Start) → T (fits binary64 (c .args .x))
-held c = subst T (sym (c .good .0 .1)) tt
+held c = passes _ (c .good .0 .1)
 
 is-nan-requires : tie.Need-is-nan-requires
 is-nan-requires c κs = search needs

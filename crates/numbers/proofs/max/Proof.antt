@@ -1,9 +1,10 @@
 -- `numbers::max` meets its contract: each way out is a line of `larger`. Assumes nothing.
 use borrow.Author.Needs.{needs}
-use mathlib.Core.Path.{_≡_, refl, sym, _∙_, subst}
+use mathlib.Core.Path.{_≡_, refl, sym, _∙_}
 use Prim.Native.Nat.{ℕ, _+_, _/_, _^_, _<_}
 use native.Mathlib.Omega.{arith}
 use mathlib.Core.Bool.{Bool, true, false, not, cond, false≢true}
+use denote.Floats.{passes}
 use lib.Dec.{T}
 use lib.Ieee.{Float, nan, inf, fin, isNan, lt}
 use Rattle.numbers.specs.Basic.{larger, negative}
@@ -37,10 +38,10 @@ second : (c : tie.Else4) → isNan (c .before .before .before .before .before .b
 second c = sym (c .before .is-nan2 .ensures) ∙ c .if4 .left
 
 number : (c : tie.Else3) → T (not (isNan (c .before .before .before .before .args .x)))
-number c = subst (λ (b : Bool). T (not b)) (sym (first c)) tt
+number c = rw (first c) tt
 
 sign : (c : tie.Else3) → Signed (c .before .before .before .before .args .x)
-sign c = signed (c .before .before .before .before .args .x) (subst T (sym (c .before .before .before .before .good .0 .1)) tt) (number c)
+sign c = signed (c .before .before .before .before .args .x) (passes _ (c .before .before .before .before .good .0 .1)) (number c)
 
 returns : tie.Need-returns
 unfolding larger

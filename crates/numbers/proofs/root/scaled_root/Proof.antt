@@ -1,7 +1,8 @@
 -- `numbers::root::scaled_root` meets its contract: a g that is returned has the pattern of the root. Assumes nothing.
-use mathlib.Core.Path.{_≡_, sym, ap, _∙_, subst}
+use mathlib.Core.Path.{_≡_, sym, ap, _∙_}
 use Prim.Native.Nat.{_+_, _*_, _^_, _<_}
 use native.Mathlib.Omega.{arith}
+use denote.Floats.{passes}
 use lib.Dec.{T}
 use lib.Ieee.{binary64, fits, ofBits, toBits}
 use lib.Ieee.Bits.{ofBits-toBits}
@@ -13,7 +14,7 @@ use Rattle.numbers.proofs.root.scaled_root.Statement.{statement}
 use Rattle.numbers.proofs.root.scaled_root.Tie as tie
 
 held : (c : tie.Start) → T (fits binary64 (c .args .g))
-held c = subst T (sym (c .good .1 .1 .0 .1)) tt
+held c = passes _ (c .good .1 .1 .0 .1)
 
 few : (c : tie.After-nearest-root) → c .nearest-root .result < 2 ^ 53
 few c = short (c .before .before .args .m) (c .nearest-root .result) (c .nearest-root .ensures) (omega arith) (omega arith)

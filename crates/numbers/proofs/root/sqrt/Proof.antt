@@ -1,7 +1,8 @@
 -- `numbers::root::sqrt` meets its contract: by the sign of x, and above zero by its pattern. Assumes nothing.
-use mathlib.Core.Path.{_≡_, refl, sym, ap, _∙_, subst}
+use mathlib.Core.Path.{_≡_, refl, sym, ap, _∙_}
 use Prim.Native.Nat.{_≤_, _<_}
 use native.Mathlib.Omega.{arith}
+use denote.Floats.{passes}
 use lib.Dec.{T}
 use lib.Ieee.{Float, binary64, fits, div, ofBits, toBits}
 use Rattle.numbers.specs.Sqrt.{root, rootUnits}
@@ -40,7 +41,7 @@ range (plus m e) h = (bits-pos m e h, omega (arith, bits-lt m e h))
 
 -- what owning an `f64` tells: the format holds it
 held : (c : tie.Start) → T (fits binary64 (c .args .x))
-held c = subst T (sym (c .good .0 .1)) tt
+held c = passes _ (c .good .0 .1)
 
 above : (c : tie.Then1) → Positive (c .before .args .x)
 above c = positive (c .before .args .x) (c .if1 .taken)

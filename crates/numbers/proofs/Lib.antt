@@ -1,4 +1,4 @@
--- Laws that the proofs of more than one function use.
+-- Laws that several proofs use, and the theorems on the square root (`Nearest`).
 mod Roots
 mod Patterns
 mod Scale

@@ -2,7 +2,7 @@
 use mathlib.Core.Path.{_≡_, sym, ap, _∙_, subst}
 use mathlib.Core.Logic.{_⊎_, inl, inr, ⊎-elim}
 use Prim.Native.Nat.{ℕ, zero, suc, _+_, _-_, _*_, _/_, _%_, _^_, _≤_, _<_}
-use native.Mathlib.Nat.{le-of-lt, lt-of-not-le, lt-of-lt-of-le, mul-le-mul, mul-le-mul-right, mul-lt-mul-of-pos-right, mul-pos, div-eq-of-eq-mul-left, zero-mul, zero-div, div-one, not-le-of-lt}
+use native.Mathlib.Nat.{add-comm, le-of-lt, ne-of-lt, lt-of-not-le, lt-of-lt-of-le, mul-le-mul, mul-le-mul-right, mul-lt-mul-of-pos-right, mul-pos, div-eq-of-eq-mul-left, zero-mul, zero-div, div-one, not-le-of-lt}
 use native.Mathlib.Decide.{decLe}
 use native.Mathlib.Omega.{arith}
 use mathlib.Core.Bool.{true, false, _&&_}
@@ -17,7 +17,7 @@ use lib.Ieee.Exact.{odd-sign}
 use Rattle.numbers.specs.Sqrt.{units, root, Number, AboveZero, rootUnits, twiceRoot², twiceMidpoint², Nearest, NoneNearer, NoTie, OnlyOne}
 use Rattle.numbers.specs.Parts.{Near, Scale, patternUnits}
 use Rattle.numbers.proofs.Patterns.{pattern}
-use Rattle.numbers.proofs.Roots.{nearest-of, long, short}
+use Rattle.numbers.proofs.Roots.{before, nearest-of, long, short}
 use Rattle.numbers.proofs.Scale.{normal-scale, root-odd}
 use Rattle.numbers.proofs.Values.{join, units-of, units-pattern, bits-lt, bits-pos, moved}
 
@@ -106,10 +106,10 @@ module _ (x r : Float) (n q k : ℕ) (h : Near n q) (lo : 2 ^ 104 ≤ n) (l : 2 
       (λ z. over (units y + units r) (2 * q + 1) (2 ^ k) n (units x * 2 ^ 1074) (pow-pos k) squares (omega arith) (omega arith))
       (beside q l y f)
 
-  -- the number before q, where √n lies below q
-  before : (o : ℕ) → q ≡ o + 1 → n < q * q → (y : Float) → Number y → units y < units r → twiceMidpoint² y r < twiceRoot² x
-  before o i b y f d =
-      let s : q * q ≡ o * o + 2 * o + 1 = rw i (omega arith) in
+  -- where √n lies below q: o is the number before q
+  below-q : (o : ℕ) → q ≡ o + 1 → n < q * q → (y : Float) → Number y → units y < units r → twiceMidpoint² y r < twiceRoot² x
+  below-q o i b y f d =
+      let s = before q o i in
       let w : q * 2 ^ k ≡ (o + 1) * 2 ^ k = ap (λ (t : ℕ). t * 2 ^ k) i in
       let j : 2 ^ 52 ≤ o = lt-of-not-le (λ (z : o ≤ 2 ^ 52 - 1). let z² = mul-le-mul z z in omega arith) in
       ⊎-elim
@@ -119,7 +119,7 @@ module _ (x r : Float) (n q k : ℕ) (h : Near n q) (lo : 2 ^ 104 ≤ n) (l : 2 
 
   below : Dec (q * q ≤ n) → (y : Float) → Number y → units y < units r → twiceMidpoint² y r < twiceRoot² x
   below (yes b) y f d = under-edge (units y + units r) (2 * q) (2 ^ k) n (units x * 2 ^ 1074) (pow-pos k) squares (omega arith) (omega arith)
-  below (no b) y f d = before (q - 1) (omega arith) (lt-of-not-le b) y f d
+  below (no b) y f d = below-q (q - 1) (omega arith) (lt-of-not-le b) y f d
 
 -- ---- the theorems
 
@@ -176,10 +176,7 @@ apart i j h = go (decLe (suc i) j)
 pub no-tie : NoTie
 no-tie x y h f d t =
     let n = nearer x h in
-    ⊎-elim (λ l. differ (n .from-below y f l) t) (λ l. differ (n .from-above y f l) (sym t)) (apart (units y) (units (root x)) d)
-  where
-    differ : {i j : ℕ} → i < j → i ≡ j → ⊥
-    differ l e = omega arith
+    ⊎-elim (λ l. ne-of-lt (n .from-below y f l) t) (λ l. ne-of-lt (n .from-above y f l) (sym t)) (apart (units y) (units (root x)) d)
 
 pub none-nearer : NoneNearer
 none-nearer x h =
@@ -214,13 +211,11 @@ only-one x r h a = go (decLe (units r) (units s)) (decLe (units s) (units r))
     g : Number s
     g = (b .above-zero .0, positive-finite s (b .above-zero .1))
 
-    clash : (i j N : ℕ) → (j + i) * (j + i) < N → N ≤ (i + j) * (i + j) → ⊥
-    clash i j N l g = omega arith
-
-    clash′ : (i j N : ℕ) → N < (j + i) * (j + i) → (i + j) * (i + j) ≤ N → ⊥
-    clash′ i j N l g = omega arith
+    -- a midpoint is that of its two ends in either order
+    swapped : twiceMidpoint² r s ≡ twiceMidpoint² s r
+    swapped = ap (λ (t : ℕ). t * t) (add-comm (units r) (units s))
 
     go : Dec (units r ≤ units s) → Dec (units s ≤ units r) → r ≡ s
     go (yes i) (yes j) = same-units r s (a .above-zero) (b .above-zero) (omega arith)
-    go (yes i) (no j) = let l = lt-of-not-le j in absurd (clash (units s) (units r) (twiceRoot² x) (b .from-below r f l) (a .from-above s g l))
-    go (no i) j = let l = lt-of-not-le i in absurd (clash′ (units s) (units r) (twiceRoot² x) (b .from-above r f l) (a .from-below s g l))
+    go (yes i) (no j) = let l = lt-of-not-le j in absurd (not-le-of-lt (b .from-below r f l) (rw swapped (a .from-above s g l)))
+    go (no i) j = let l = lt-of-not-le i in absurd (not-le-of-lt (b .from-above r f l) (rw swapped (a .from-below s g l)))

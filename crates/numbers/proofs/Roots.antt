@@ -52,7 +52,7 @@ compare-gt (suc a) zero h = compare·suc-zero a
 compare-gt (suc a) (suc b) h = compare·suc-suc a b ∙ compare-gt a b (le-of-suc-le-suc h)
 
 -- the square of the number before q
-before : (q r : ℕ) → q ≡ r + 1 → q * q ≡ r * r + 2 * r + 1
+pub before : (q r : ℕ) → q ≡ r + 1 → q * q ≡ r * r + 2 * r + 1
 before q r e = rw e (omega arith)
 
 -- The whole number nearest to √n is what `rounded` says: n lies on one side of q * q, and on the inner side of a midpoint.

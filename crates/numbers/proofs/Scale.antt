@@ -57,7 +57,7 @@ pub at-most-twice : (m p : ℕ) → m * (p % 2) ≤ m * 1
 at-most-twice m p = mul-le-mul-left m (omega arith)
 
 -- a normal number's pattern, whose exponent's field is e + 1
-pub normal-even : (b e : ℕ) → b / 2 ^ 52 ≡ e + 1 → patternUnits b * 2 ^ 1074 ≡ (b - e * 2 ^ 52) * (e % 2 + 1) * 2 ^ 52 * 2 ^ (2 * (e / 2 + 511))
+normal-even : (b e : ℕ) → b / 2 ^ 52 ≡ e + 1 → patternUnits b * 2 ^ 1074 ≡ (b - e * 2 ^ 52) * (e % 2 + 1) * 2 ^ 52 * 2 ^ (2 * (e / 2 + 511))
 normal-even b e h =
     let f : b / 2 ^ 52 - 1 ≡ e = omega arith in
     let r : (e + 52) % 2 ≡ e % 2 = omega arith in

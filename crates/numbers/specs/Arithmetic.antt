@@ -4,32 +4,32 @@ use Prim.Native.Nat.{ℕ, _^_}
 use mathlib.Core.Bool.{Bool, true, false}
 use lib.Ieee.{Float, binary64, round, add, sub, mul, div, lt, le}
 
-infixl 65 _+ᶠ_
-infixl 65 _-ᶠ_
-infixl 70 _*ᶠ_
-infixl 70 _/ᶠ_
-infix 50 _<ᶠ_
-infix 50 _≤ᶠ_
+infixl 65 _+₆₄_
+infixl 65 _-₆₄_
+infixl 70 _*₆₄_
+infixl 70 _/₆₄_
+infix 50 _<₆₄_
+infix 50 _≤₆₄_
 infix 5 if_then_else_
 -- each rounds its exact result once, to the nearest binary64, ties to even
-abbrev pub _+ᶠ_ : Float → Float → Float
-a +ᶠ b = add binary64 a b
+abbrev pub _+₆₄_ : Float → Float → Float
+a +₆₄ b = add binary64 a b
 
-abbrev pub _-ᶠ_ : Float → Float → Float
-a -ᶠ b = sub binary64 a b
+abbrev pub _-₆₄_ : Float → Float → Float
+a -₆₄ b = sub binary64 a b
 
-abbrev pub _*ᶠ_ : Float → Float → Float
-a *ᶠ b = mul binary64 a b
+abbrev pub _*₆₄_ : Float → Float → Float
+a *₆₄ b = mul binary64 a b
 
-abbrev pub _/ᶠ_ : Float → Float → Float
-a /ᶠ b = div binary64 a b
+abbrev pub _/₆₄_ : Float → Float → Float
+a /₆₄ b = div binary64 a b
 
 -- -0 equals +0, and both are false where one side is not a number
-abbrev pub _<ᶠ_ : Float → Float → Bool
-a <ᶠ b = lt a b
+abbrev pub _<₆₄_ : Float → Float → Bool
+a <₆₄ b = lt a b
 
-abbrev pub _≤ᶠ_ : Float → Float → Bool
-a ≤ᶠ b = le a b
+abbrev pub _≤₆₄_ : Float → Float → Bool
+a ≤₆₄ b = le a b
 
 abbrev pub if_then_else_ : {A : Type 0} → Bool → A → A → A
 if true then a else b = a

@@ -5,7 +5,7 @@ use mathlib.Core.List.{List, [], _∷_}
 use Prim.Native.Nat.{ℕ}
 use lib.Ieee.{Float, nan, inf, binary64, ofBits, toBits, add, sub, mul, div, neg, lt, le, eq, isNan}
 use lib.Ieee.Scale.{finite}
-use Rattle.numbers.specs.Arithmetic.{_+ᶠ_, _-ᶠ_, _*ᶠ_, _/ᶠ_, _<ᶠ_, _≤ᶠ_, if_then_else_, decimal, 0f, ½, 1f, 1½, 2f, 4f, 1e-4, 1e-7, 1e-11, 1e-12, 1e-14, 1e-15, 1e-30}
+use Rattle.numbers.specs.Arithmetic.{_+₆₄_, _-₆₄_, _*₆₄_, _/₆₄_, _<₆₄_, _≤₆₄_, if_then_else_, decimal, 0f, ½, 1f, 1½, 2f, 4f, 1e-4, 1e-7, 1e-11, 1e-12, 1e-14, 1e-15, 1e-30}
 use Rattle.numbers.specs.Basic.{magnitude, negative, larger, clamped, infinite}
 use Rattle.numbers.specs.Sqrt.{root}
 
@@ -78,13 +78,13 @@ rows =
     (yes? (finite nan) is 0x0000_0000_0000_0000) ∷
     (yes? (finite -0f) is 0x3ff0_0000_0000_0000) ∷
     -- operators: each rounds once, and no comparison holds of a NaN
-    (1e-4 +ᶠ 1e-7 is 0x3f1a_3d98_e7c2_f259) ∷
-    (1f -ᶠ 1e-15 is 0x3fef_ffff_ffff_fff7) ∷
-    (1e-7 *ᶠ 1e-7 is 0x3d06_849b_86a1_2b9a) ∷
-    (1f /ᶠ decimal 10 0 is 0x3fb9_9999_9999_999a) ∷
-    (yes? (-0f <ᶠ 0f) is 0x0000_0000_0000_0000) ∷
-    (yes? (-0f ≤ᶠ 0f) is 0x3ff0_0000_0000_0000) ∷
-    (yes? (nan ≤ᶠ nan) is 0x0000_0000_0000_0000) ∷
+    (1e-4 +₆₄ 1e-7 is 0x3f1a_3d98_e7c2_f259) ∷
+    (1f -₆₄ 1e-15 is 0x3fef_ffff_ffff_fff7) ∷
+    (1e-7 *₆₄ 1e-7 is 0x3d06_849b_86a1_2b9a) ∷
+    (1f /₆₄ decimal 10 0 is 0x3fb9_9999_9999_999a) ∷
+    (yes? (-0f <₆₄ 0f) is 0x0000_0000_0000_0000) ∷
+    (yes? (-0f ≤₆₄ 0f) is 0x3ff0_0000_0000_0000) ∷
+    (yes? (nan ≤₆₄ nan) is 0x0000_0000_0000_0000) ∷
     -- the numbers that the sources write
     (1e-4 is 0x3f1a_36e2_eb1c_432d) ∷
     (1e-7 is 0x3e7a_d7f2_9abc_af48) ∷

@@ -1,9 +1,9 @@
 -- `numbers::root::whole_root` meets its contract. The invariant: r is the root of n with its last 2i digits left off, and rest is what it leaves; i is the measure. Assumes nothing.
 use mathlib.Core.Path.{_≡_, sym, ap, _∙_}
 use Prim.Native.Nat.{ℕ, _+_, _-_, _*_, _/_, _^_, _≤_, _<_}
-use native.Mathlib.Nat.{div-div-eq-div-mul, div-le-self, div-one}
+use native.Mathlib.Nat.{div-le-self, div-one}
 use native.Mathlib.Omega.{arith}
-use lib.Pow.{pow-add}
+use lib.Pow.{shr-shr}
 use Rattle.numbers.proofs.Roots.{at-most}
 use Rattle.numbers.proofs.root.whole_root.Statement.{statement}
 use Rattle.numbers.proofs.root.whole_root.Tie as tie
@@ -16,7 +16,7 @@ abbrev μ-loop : tie.MeasureT-loop
 
 -- two digits more
 more : (n i : ℕ) → 0 < i → n / 2 ^ ((i - 1) * 2) / 4 ≡ n / 2 ^ (i * 2)
-more n i h = div-div-eq-div-mul n (2 ^ ((i - 1) * 2)) 4 ∙ ap (λ (y : ℕ). n / y) (sym (pow-add 2 ((i - 1) * 2) 2) ∙ ap (λ (y : ℕ). 2 ^ y) (omega arith))
+more n i h = shr-shr n ((i - 1) * 2) 2 ∙ ap (λ (y : ℕ). n / 2 ^ y) (omega arith)
 
 none-left : (n i : ℕ) → i ≡ 0 → n / 2 ^ (i * 2) ≡ n
 none-left n i e = rw e (div-one n)

@@ -1,0 +1,5 @@
+-- Laws that several proofs use.
+pub mod Refusals
+pub mod Terms
+pub mod Shared
+pub mod Passes

@@ -1,0 +1,19 @@
+-- What is returned follows from the tests and the calls on the way, in their order. Assumes nothing.
+use lib.Ieee.{ofBits}
+use Rattle.numbers.specs.Arithmetic.{decimal}
+use Rattle.surfaces.specs.Asphere.{evenGood}
+use Rattle.surfaces.proofs.asphere.EvenAsphere.is_good.Statement.{statement}
+use Rattle.surfaces.proofs.asphere.EvenAsphere.is_good.Tie as tie
+
+pub is-good-spec : {M : Type 1} → statement M
+unfolding evenGood decimal ofBits
+is-good-spec =
+    tie.close
+    (tie.spec
+    (λ c κs. tt)
+    (λ c κs. tt)
+    (λ c κs. tt)
+    (λ c κs. tt)
+    (λ c.
+      let c1 = c .before in let c2 = c1 .before in let c3 = c2 .before in
+      rw (← c3 .is-finite .ensures, ← c2 .is-finite2 .ensures, ← c1 .is-finite3 .ensures, ← c .coefficients-good .ensures)))

@@ -1,0 +1,22 @@
+-- What is returned follows from the tests and the calls on the way, in their order. Assumes nothing.
+use lib.Ieee.{ofBits}
+use Rattle.numbers.specs.Arithmetic.{decimal}
+use Rattle.surfaces.specs.Asphere.{oddSagAnswer}
+use Rattle.surfaces.proofs.asphere.OddAsphere.sag.Statement.{statement}
+use Rattle.surfaces.proofs.asphere.OddAsphere.sag.Tie as tie
+
+pub sag-spec : {M : Type 1} → statement M
+unfolding oddSagAnswer decimal ofBits
+sag-spec =
+    tie.close
+    (tie.spec
+    (λ c κs. tt)
+    (λ c κs. tt)
+    (λ c.
+      let c1 = c .before in let c2 = c1 .before in
+      rw (← c2 .is-finite .ensures, ← c1 .is-good .ensures, c .if1 .taken))
+    (λ c κs. tt)
+    (λ c κs. tt)
+    (λ c.
+      let c1 = c .before in let c2 = c1 .before in let c3 = c2 .before in let c4 = c3 .before in
+      rw (← c4 .is-finite .ensures, ← c3 .is-good .ensures, c2 .if1 .left, ← c1 .odd-sag .ensures, ← c .checked-sag .ensures)))

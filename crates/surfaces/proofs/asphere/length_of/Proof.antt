@@ -1,0 +1,14 @@
+-- What is returned follows from the tests and the calls on the way, in their order. Assumes nothing.
+use lib.Ieee.{ofBits}
+use Rattle.numbers.specs.Arithmetic.{decimal}
+use Rattle.surfaces.specs.Asphere.{lengthOf}
+use Rattle.surfaces.proofs.asphere.length_of.Statement.{statement}
+use Rattle.surfaces.proofs.asphere.length_of.Tie as tie
+
+pub length-of-spec : {M : Type 1} → statement M
+unfolding lengthOf decimal ofBits
+length-of-spec =
+    tie.close
+    (tie.spec
+    (λ c κs. tt)
+    (λ c. rw (← c .sqrt .ensures)))

@@ -1,0 +1,30 @@
+-- What is returned follows from the tests and the calls on the way, in their order. Assumes nothing.
+use borrow.Author.Needs.{needs}
+use Rattle.surfaces.proofs.Refusals.{never-done}
+use lib.Ieee.{ofBits}
+use Rattle.numbers.specs.Arithmetic.{decimal}
+use Rattle.surfaces.specs.Asphere.{oddSag}
+use Rattle.surfaces.proofs.asphere.odd_sag.Statement.{statement}
+use Rattle.surfaces.proofs.asphere.odd_sag.Tie as tie
+
+pub odd-sag-spec : {M : Type 1} → statement M
+unfolding oddSag decimal ofBits
+odd-sag-spec =
+    tie.close
+    (tie.spec
+    (λ c κs. tt)
+    (λ c.
+      let c1 = c .before in
+      rw (← c1 .is-finite .ensures, c .if1 .taken))
+    (λ c κs. tt)
+    (λ c. search needs)
+    (λ c κs. tt)
+    (λ c κs. tt)
+    (λ c κs. tt)
+    (λ c. search needs)
+    (λ c.
+      let c1 = c .before in let c2 = c1 .before in let c4 = c2 .before .before in let c6 = c4 .before .before in let c9 = c6 .before .before .before in let c10 = c9 .before in
+      rw (← c10 .is-finite .ensures, c9 .if1 .left, ← c6 .base-root .ensures, c4 .root .given .1, ← c2 .base-sag .ensures, ← c1 .power-sum .ensures, ← c .power-sum2 .ensures))
+    (λ c.
+      let c1 = c .before in let c3 = c1 .before .before in let c6 = c3 .before .before .before in let c7 = c6 .before in
+      rw (← c7 .is-finite .ensures, c6 .if1 .left, ← c3 .base-root .ensures, c1 .e .given .1, never-done)))

@@ -1,0 +1,26 @@
+-- What is returned follows from the tests and the calls on the way, in their order. Assumes nothing.
+use borrow.Author.Needs.{needs}
+use Rattle.surfaces.proofs.Refusals.{never-done}
+use lib.Ieee.{ofBits}
+use Rattle.numbers.specs.Arithmetic.{decimal}
+use Rattle.surfaces.specs.Asphere.{oddSlope}
+use Rattle.surfaces.proofs.asphere.odd_slope.Statement.{statement}
+use Rattle.surfaces.proofs.asphere.odd_slope.Tie as tie
+
+pub odd-slope-spec : {M : Type 1} → statement M
+unfolding oddSlope decimal ofBits
+odd-slope-spec =
+    tie.close
+    (tie.spec
+    (λ c κs. tt)
+    (λ c. search needs)
+    (λ c κs. tt)
+    (λ c κs. tt)
+    (λ c κs. tt)
+    (λ c. search needs)
+    (λ c.
+      let c1 = c .before in let c2 = c1 .before in let c4 = c2 .before .before in let c6 = c4 .before .before in
+      rw (← c6 .base-root .ensures, c4 .root .given .1, ← c2 .odd-base-slope .ensures, ← c1 .slope-sum .ensures, ← c .slope-sum2 .ensures))
+    (λ c.
+      let c1 = c .before in let c3 = c1 .before .before in
+      rw (← c3 .base-root .ensures, c1 .e .given .1, never-done)))

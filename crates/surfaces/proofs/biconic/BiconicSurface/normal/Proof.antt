@@ -1,0 +1,23 @@
+-- What is returned follows from the tests and the calls on the way, in their order. Assumes nothing.
+use lib.Ieee.{ofBits}
+use Rattle.numbers.specs.Arithmetic.{decimal}
+use Rattle.surfaces.specs.Biconic.{biconicNormalAnswer}
+use Rattle.surfaces.proofs.biconic.BiconicSurface.normal.Statement.{statement}
+use Rattle.surfaces.proofs.biconic.BiconicSurface.normal.Tie as tie
+
+pub normal-spec : {M : Type 1} → statement M
+unfolding biconicNormalAnswer decimal ofBits
+normal-spec =
+    tie.close
+    (tie.spec
+    (λ c κs. tt)
+    (λ c κs. tt)
+    (λ c κs. tt)
+    (λ c.
+      let c1 = c .before in let c2 = c1 .before in let c3 = c2 .before in
+      rw (← c3 .is-finite .ensures, ← c2 .is-finite2 .ensures, ← c1 .is-good .ensures, c .if1 .taken))
+    (λ c κs. tt)
+    (λ c κs. tt)
+    (λ c.
+      let c1 = c .before in let c2 = c1 .before in let c3 = c2 .before in let c4 = c3 .before in let c5 = c4 .before in
+      rw (← c5 .is-finite .ensures, ← c4 .is-finite2 .ensures, ← c3 .is-good .ensures, c2 .if1 .left, ← c1 .biconic-normal .ensures, ← c .checked-direction .ensures)))

@@ -1,0 +1,19 @@
+-- What is returned follows from the tests and the calls on the way, in their order. Assumes nothing.
+use lib.Ieee.{ofBits}
+use Rattle.numbers.specs.Arithmetic.{decimal}
+use Rattle.surfaces.specs.Biconic.{biconicParaxial}
+use Rattle.surfaces.proofs.biconic.BiconicSurface.paraxial_curvatures.Statement.{statement}
+use Rattle.surfaces.proofs.biconic.BiconicSurface.paraxial_curvatures.Tie as tie
+
+pub paraxial-curvatures-spec : {M : Type 1} → statement M
+unfolding biconicParaxial decimal ofBits
+paraxial-curvatures-spec =
+    tie.close
+    (tie.spec
+    (λ c κs. tt)
+    (λ c.
+      let c1 = c .before in
+      rw (← c1 .is-good .ensures, c .if1 .taken))
+    (λ c.
+      let c1 = c .before in
+      rw (← c1 .is-good .ensures, c .if1 .left)))

@@ -1,0 +1,24 @@
+-- What is returned follows from the tests and the calls on the way, in their order. Assumes nothing.
+use borrow.Author.Needs.{needs}
+use Rattle.surfaces.proofs.Refusals.{never-done}
+use lib.Ieee.{ofBits}
+use Rattle.numbers.specs.Arithmetic.{decimal}
+use Rattle.surfaces.specs.Biconic.{circleDepth}
+use Rattle.surfaces.proofs.biconic.circle_depth.Statement.{statement}
+use Rattle.surfaces.proofs.biconic.circle_depth.Tie as tie
+
+pub circle-depth-spec : {M : Type 1} → statement M
+unfolding circleDepth decimal ofBits
+circle-depth-spec =
+    tie.close
+    (tie.spec
+    (λ c κs. tt)
+    (λ c. search needs)
+    (λ c κs. tt)
+    (λ c. search needs)
+    (λ c.
+      let c2 = c .before .before in let c4 = c2 .before .before in
+      rw (← c4 .edge-root .ensures, c2 .s .given .1, ← c .sign-of .ensures))
+    (λ c.
+      let c1 = c .before in let c3 = c1 .before .before in
+      rw (← c3 .edge-root .ensures, c1 .e .given .1, never-done)))

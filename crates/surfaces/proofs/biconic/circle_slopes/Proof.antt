@@ -1,0 +1,18 @@
+-- What is returned follows from the tests and the calls on the way, in their order. Assumes nothing.
+use lib.Ieee.{ofBits}
+use Rattle.numbers.specs.Arithmetic.{decimal}
+use Rattle.surfaces.specs.Biconic.{circleSlopes}
+use Rattle.surfaces.proofs.biconic.circle_slopes.Statement.{statement}
+use Rattle.surfaces.proofs.biconic.circle_slopes.Tie as tie
+
+pub circle-slopes-spec : {M : Type 1} → statement M
+unfolding circleSlopes decimal ofBits
+circle-slopes-spec =
+    tie.close
+    (tie.spec
+    (λ c. rw (c .if1 .taken))
+    (λ c κs. tt)
+    (λ c κs. tt)
+    (λ c.
+      let c1 = c .before in let c2 = c1 .before in
+      rw (c2 .if1 .left, ← c1 .sqrt .ensures, ← c .circle-slopes-at .ensures)))

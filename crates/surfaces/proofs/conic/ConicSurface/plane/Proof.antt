@@ -1,0 +1,13 @@
+-- What is returned follows from the tests and the calls on the way, in their order. Assumes nothing.
+use lib.Ieee.{ofBits}
+use Rattle.numbers.specs.Arithmetic.{decimal}
+use Rattle.surfaces.proofs.conic.ConicSurface.plane.Statement.{statement}
+use Rattle.surfaces.proofs.conic.ConicSurface.plane.Tie as tie
+
+pub plane-spec : {M : Type 1} → statement M
+unfolding decimal ofBits
+plane-spec =
+    tie.close
+    (tie.spec
+    (λ c κs. tt)
+    (λ c. rw (← c .from-curvature .ensures)))

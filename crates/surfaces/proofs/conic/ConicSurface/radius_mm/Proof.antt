@@ -1,0 +1,13 @@
+-- What is returned follows from the tests and the calls on the way, in their order. Assumes nothing.
+use lib.Ieee.{ofBits}
+use Rattle.numbers.specs.Arithmetic.{decimal}
+use Rattle.surfaces.proofs.conic.ConicSurface.radius_mm.Statement.{statement}
+use Rattle.surfaces.proofs.conic.ConicSurface.radius_mm.Tie as tie
+
+pub radius-mm-spec : {M : Type 1} → statement M
+unfolding decimal ofBits
+radius-mm-spec =
+    tie.close
+    (tie.spec
+    (λ c κs. tt)
+    (λ c. rw (← c .radius-of .ensures)))

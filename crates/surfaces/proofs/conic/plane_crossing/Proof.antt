@@ -1,0 +1,26 @@
+-- What is returned follows from the tests and the calls on the way, in their order. Assumes nothing.
+use lib.Ieee.{ofBits}
+use Rattle.numbers.specs.Arithmetic.{decimal}
+use Rattle.surfaces.specs.Conic.{planeCrossing}
+use Rattle.surfaces.proofs.conic.plane_crossing.Statement.{statement}
+use Rattle.surfaces.proofs.conic.plane_crossing.Tie as tie
+
+pub plane-crossing-spec : {M : Type 1} → statement M
+unfolding planeCrossing decimal ofBits
+plane-crossing-spec =
+    tie.close
+    (tie.spec
+    (λ c κs. tt)
+    (λ c.
+      let c1 = c .before in
+      rw (← c1 .abs .ensures, c .if1 .taken))
+    (λ c.
+      let c1 = c .before in let c2 = c1 .before in
+      rw (← c2 .abs .ensures, c1 .if1 .left, c .if2 .taken))
+    (λ c κs. tt)
+    (λ c κs. tt)
+    (λ c κs. tt)
+    (λ c κs. tt)
+    (λ c.
+      let c1 = c .before in let c2 = c1 .before in let c3 = c2 .before in let c4 = c3 .before in let c5 = c4 .before in let c6 = c5 .before in
+      rw (← c6 .abs .ensures, c5 .if1 .left, c4 .if2 .left, ← c3 .max .ensures, ← c2 .point-at .ensures, ← c1 .radius .ensures, ← c .landed-within .ensures)))

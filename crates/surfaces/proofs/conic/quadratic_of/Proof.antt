@@ -1,0 +1,14 @@
+-- What is returned follows from the tests and the calls on the way, in their order. Assumes nothing.
+use mathlib.Core.Path.{refl}
+use lib.Ieee.{ofBits}
+use Rattle.numbers.specs.Arithmetic.{decimal}
+use Rattle.surfaces.specs.Conic.{quadraticOf}
+use Rattle.surfaces.proofs.conic.quadratic_of.Statement.{statement}
+use Rattle.surfaces.proofs.conic.quadratic_of.Tie as tie
+
+pub quadratic-of-spec : {M : Type 1} → statement M
+unfolding quadraticOf decimal ofBits
+quadratic-of-spec =
+    tie.close
+    (tie.spec
+    (λ c. refl))

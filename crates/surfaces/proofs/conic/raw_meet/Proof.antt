@@ -1,0 +1,30 @@
+-- What is returned follows from the tests and the calls on the way, in their order. Assumes nothing.
+use borrow.Author.Needs.{needs}
+use Rattle.surfaces.proofs.Refusals.{never-done}
+use lib.Ieee.{ofBits}
+use Rattle.numbers.specs.Arithmetic.{decimal}
+use Rattle.surfaces.specs.Conic.{meetRule}
+use Rattle.surfaces.proofs.conic.raw_meet.Statement.{statement}
+use Rattle.surfaces.proofs.conic.raw_meet.Tie as tie
+
+pub raw-meet-spec : {M : Type 1} → statement M
+unfolding meetRule decimal ofBits
+raw-meet-spec =
+    tie.close
+    (tie.spec
+    (λ c κs. tt)
+    (λ c. search needs)
+    (λ c κs. tt)
+    (λ c. search needs)
+    (λ c κs. tt)
+    (λ c. search needs)
+    (λ c. search needs)
+    (λ c.
+      let c2 = c .before .before in let c4 = c2 .before .before in let c7 = c4 .before .before .before in let c9 = c7 .before .before in
+      rw (← c9 .crossing .ensures, c7 .l .given .1, ← c4 .normal-at .ensures, c2 .n .given .1, ← c .hit-at .ensures))
+    (λ c.
+      let c1 = c .before in let c3 = c1 .before .before in let c6 = c3 .before .before .before in let c8 = c6 .before .before in
+      rw (← c8 .crossing .ensures, c6 .l .given .1, ← c3 .normal-at .ensures, c1 .e .given .1, never-done))
+    (λ c.
+      let c1 = c .before in let c3 = c1 .before .before in
+      rw (← c3 .crossing .ensures, c1 .e2 .given .1, never-done)))

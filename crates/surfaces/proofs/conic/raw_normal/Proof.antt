@@ -1,0 +1,23 @@
+-- What is returned follows from the tests and the calls on the way, in their order. Assumes nothing.
+use lib.Ieee.{ofBits}
+use Rattle.numbers.specs.Arithmetic.{decimal}
+use Rattle.surfaces.specs.Conic.{conicNormal}
+use Rattle.surfaces.proofs.conic.raw_normal.Statement.{statement}
+use Rattle.surfaces.proofs.conic.raw_normal.Tie as tie
+
+pub raw-normal-spec : {M : Type 1} → statement M
+unfolding conicNormal decimal ofBits
+raw-normal-spec =
+    tie.close
+    (tie.spec
+    (λ c κs. tt)
+    (λ c κs. tt)
+    (λ c κs. tt)
+    (λ c κs. tt)
+    (λ c.
+      let c1 = c .before in let c2 = c1 .before in let c3 = c2 .before in let c4 = c3 .before in
+      rw (← c4 .all-finite .ensures, ← c3 .is-finite .ensures, ← c2 .is-finite2 .ensures, ← c1 .is-finite3 .ensures, c .if1 .taken))
+    (λ c κs. tt)
+    (λ c.
+      let c1 = c .before in let c2 = c1 .before in let c3 = c2 .before in let c4 = c3 .before in let c5 = c4 .before in
+      rw (← c5 .all-finite .ensures, ← c4 .is-finite .ensures, ← c3 .is-finite2 .ensures, ← c2 .is-finite3 .ensures, c1 .if1 .left, ← c .gradient-normal .ensures)))

@@ -1,0 +1,17 @@
+-- What is returned follows from the tests and the calls on the way, in their order. Assumes nothing.
+use lib.Ieee.{ofBits}
+use Rattle.numbers.specs.Arithmetic.{decimal}
+use Rattle.surfaces.specs.Snell.{refractAnswer}
+use Rattle.surfaces.proofs.snell.snell_refract.Statement.{statement}
+use Rattle.surfaces.proofs.snell.snell_refract.Tie as tie
+
+pub snell-refract-spec : {M : Type 1} → statement M
+unfolding refractAnswer decimal ofBits
+snell-refract-spec =
+    tie.close
+    (tie.spec
+    (λ c κs. tt)
+    (λ c κs. tt)
+    (λ c.
+      let c1 = c .before in
+      rw (← c1 .raw-refract .ensures, ← c .checked-direction .ensures)))

@@ -1,0 +1,16 @@
+-- What is returned follows from the tests and the calls on the way, in their order. Assumes nothing.
+use lib.Ieee.{ofBits}
+use Rattle.numbers.specs.Arithmetic.{decimal}
+use Rattle.surfaces.specs.Snell.{turnedIf}
+use Rattle.surfaces.proofs.snell.turned_if.Statement.{statement}
+use Rattle.surfaces.proofs.snell.turned_if.Tie as tie
+
+pub turned-if-spec : {M : Type 1} → statement M
+unfolding turnedIf decimal ofBits
+turned-if-spec =
+    tie.close
+    (tie.spec
+    (λ c.
+      let c3 = c .before .before .before in
+      rw (c3 .if1 .taken))
+    (λ c. rw (c .if1 .left)))

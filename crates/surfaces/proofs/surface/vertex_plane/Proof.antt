@@ -1,0 +1,14 @@
+-- What is returned follows from the tests and the calls on the way, in their order. Assumes nothing.
+use lib.Ieee.{ofBits}
+use Rattle.numbers.specs.Arithmetic.{decimal}
+use Rattle.surfaces.specs.Newton.{vertexPlane}
+use Rattle.surfaces.proofs.surface.vertex_plane.Statement.{statement}
+use Rattle.surfaces.proofs.surface.vertex_plane.Tie as tie
+
+pub vertex-plane-spec : {M : Type 1} → statement M
+unfolding vertexPlane decimal ofBits
+vertex-plane-spec =
+    tie.close
+    (tie.spec
+    (λ c. rw (c .if1 .taken))
+    (λ c. rw (c .if1 .left)))

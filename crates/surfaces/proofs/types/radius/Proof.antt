@@ -1,0 +1,14 @@
+-- What is returned follows from the tests and the calls on the way, in their order. Assumes nothing.
+use lib.Ieee.{ofBits}
+use Rattle.numbers.specs.Arithmetic.{decimal}
+use Rattle.surfaces.specs.Types.{distance}
+use Rattle.surfaces.proofs.types.radius.Statement.{statement}
+use Rattle.surfaces.proofs.types.radius.Tie as tie
+
+pub radius-spec : {M : Type 1} → statement M
+unfolding distance decimal ofBits
+radius-spec =
+    tie.close
+    (tie.spec
+    (λ c κs. tt)
+    (λ c. rw (← c .sqrt .ensures)))

@@ -1,0 +1,206 @@
+-- Even and odd aspheres. Definitions only.
+use Prim.Native.Nat.{ℕ, suc}
+use mathlib.Core.Bool.{Bool, true, false, not, _&&_, _||_}
+use mathlib.Core.List.{List, [], _∷_}
+use lib.IntN.{pos}
+use lib.Ieee.{Float, binary64, neg, ofInt}
+use lib.Ieee.Scale.{finite}
+use Rattle.numbers.specs.Arithmetic.{_+₆₄_, _-₆₄_, _*₆₄_, _/₆₄_, _<₆₄_, _≤₆₄_, if_then_else_, 0f, 1f, 2f, 1e-12, 1e-14, 1e-15}
+use Rattle.numbers.specs.Basic.{magnitude, larger}
+use Rattle.numbers.specs.Sqrt.{root}
+use Rattle.surfaces.specs.Types.{vec, zeros, backwards, distance, allFinite, rayFinite, meridians, noMeridians, noLanding, landingFinite, terms, coefficientsGood}
+use Rattle.surfaces.specs.Told.{Told, Depths, plain, gives, refused, after, checked9, noNumber, noPair, noDirection, noCrossing, noEven, noOdd, depths, noDepths, noDepth, sagOf}
+use Rattle.surfaces.specs.Newton.{Shape, newtonEnd}
+use Rattle.surfaces.specs.declared.types.Vec3.{Vec3}
+use Rattle.surfaces.specs.declared.types.Ray.{Ray}
+use Rattle.surfaces.specs.declared.types.Landing.{Landing}
+use Rattle.surfaces.specs.declared.types.Meridians.{Meridians}
+use Rattle.surfaces.specs.declared.types.Coefficients.{Coefficients}
+use Rattle.surfaces.specs.declared.asphere.EvenAsphere.{EvenAsphere}
+use Rattle.surfaces.specs.declared.asphere.OddAsphere.{OddAsphere}
+
+-- sum + a · p + b · (p · r2) + .., from the left
+unfoldable pub powerSumFrom : Float → List Float → Float → Float → Float
+powerSumFrom sum [] p r2 = sum
+powerSumFrom sum (a ∷ l) p r2 = powerSumFrom (sum +₆₄ a *₆₄ p) l (p *₆₄ r2) r2
+
+-- the coefficients times their powers of r, of which the first is given
+abbrev pub powerSum : List Float → Float → Float → Float
+powerSum l p r2 = powerSumFrom 0f l p r2
+
+-- the same with each term also times its exponent, which for the i-th coefficient is 2 i + the first one
+unfoldable pub slopeSumFrom : ℕ → Float → List Float → Float → Float → Float → Float
+slopeSumFrom i sum [] e p r2 = sum
+slopeSumFrom i sum (a ∷ l) e p r2 =
+    slopeSumFrom (suc i) (sum +₆₄ (2f *₆₄ ofInt binary64 (pos i) +₆₄ e) *₆₄ a *₆₄ p) l e (p *₆₄ r2) r2
+
+abbrev pub slopeSum : List Float → Float → Float → Float → Float
+slopeSum l e p r2 = slopeSumFrom 0 0f l e p r2
+
+-- the root in every sag but the conic's: only a radicand below -1e-12 is refused, and one below 0 counts as 0
+unfoldable pub edgeRoot : Float → Told Float
+edgeRoot radicand = if radicand <₆₄ neg 1e-12 then noNumber 5 else gives (root (larger radicand 0f))
+
+-- the conic base of an asphere: its root, which is 1 where the base is flat, and from that its sag and slope
+unfoldable pub baseRoot : Float → Float → Float → Told Float
+baseRoot c k r2 =
+    if magnitude c <₆₄ 1e-15 then gives 1f else
+    edgeRoot (1f -₆₄ (1f +₆₄ k) *₆₄ c *₆₄ c *₆₄ r2)
+
+unfoldable pub baseSag : Float → Float → Float → Float
+baseSag c r2 s = if magnitude c <₆₄ 1e-15 then 0f else (c *₆₄ r2) /₆₄ (1f +₆₄ s)
+
+unfoldable pub baseSlope : Float → Float → Float → Told Float
+baseSlope c r s =
+    if magnitude c <₆₄ 1e-15 then gives 0f else
+    if s ≤₆₄ 1e-15 then noNumber 4 else
+    gives ((c *₆₄ r) /₆₄ s)
+
+-- EvenAsphere::sag
+unfoldable pub evenDepth : Float → Float → Coefficients → Float → Told Depths
+evenDepth c k a r =
+    let r2 = r *₆₄ r in
+    if not (finite r) || (r <₆₄ 0f) then noDepth 2 else
+    after noDepths (baseRoot c k r2) (λ s.
+    gives (depths (baseSag c r2 s +₆₄ powerSum (terms a) r2 r2) s 0f))
+
+unfoldable pub evenSlopeFrom : Float → Coefficients → Float → Float → Told Float
+evenSlopeFrom c a r s =
+    after 0f (baseSlope c r s) (λ d.
+    gives (d +₆₄ slopeSum (terms a) 2f r (r *₆₄ r)))
+
+-- EvenAsphere::radial_derivative
+unfoldable pub evenSlope : Float → Float → Coefficients → Float → Told Float
+evenSlope c k a r =
+    if not (finite r) || (r <₆₄ 0f) then noNumber 2 else
+    after 0f (baseRoot c k (r *₆₄ r)) (evenSlopeFrom c a r)
+
+-- a radial slope in x and y: none near the axis
+unfoldable pub radialSlopes : Float → Float → Float → Float → Meridians
+radialSlopes d x y r = if 1e-14 <₆₄ r then meridians (d *₆₄ (x /₆₄ r)) (d *₆₄ (y /₆₄ r)) else noMeridians
+
+-- the slopes of EvenAsphere::intersect_ray
+unfoldable pub evenSlopes : Float → Float → Coefficients → Float → Float → Float → Told Meridians
+evenSlopes c k a x y r = after noMeridians (evenSlope c k a r) (λ d. gives (radialSlopes d x y r))
+
+-- the same, given the base's root at r
+unfoldable pub evenSlopesFrom : Float → Coefficients → Float → Float → Float → Float → Told Meridians
+evenSlopesFrom c a x y r s = after noMeridians (evenSlopeFrom c a r s) (λ d. gives (radialSlopes d x y r))
+
+-- a surface with these slopes: the length of (slopes, -1), and the unit normal towards -z
+unfoldable pub lengthOf : Float → Float → Float
+lengthOf dx dy = root (dx *₆₄ dx +₆₄ dy *₆₄ dy +₆₄ 1f)
+
+unfoldable pub facingOf : Float → Float → Float → Vec3
+facingOf dx dy norm = vec (dx /₆₄ norm) (dy /₆₄ norm) (neg 1f /₆₄ norm)
+
+-- the last test of EvenAsphere::normal, which no other normal has
+unfoldable pub evenFacing : Float → Float → Told Vec3
+evenFacing dx dy =
+    let norm = lengthOf dx dy in
+    if (norm ≤₆₄ 1e-15) || not (finite norm) then noDirection 4 else
+    gives (facingOf dx dy norm)
+
+-- EvenAsphere::normal
+unfoldable pub evenNormal : Float → Float → Coefficients → Float → Float → Told Vec3
+evenNormal c k a x y =
+    let r = distance x y in
+    if r <₆₄ 1e-15 then gives backwards else
+    after zeros (evenSlope c k a r) (λ d.
+    evenFacing (d *₆₄ (x /₆₄ r)) (d *₆₄ (y /₆₄ r)))
+
+abbrev pub evenShape : Float → Float → Coefficients → Float → Shape
+evenShape c k a semi = record {
+  sag = λ r p. evenDepth c k a r;
+  slopes = λ r p. evenSlopes c k a (p .x) (p .y) r;
+  semi = semi;
+  checksLast = false;
+  limit = 25;
+}
+
+unfoldable pub evenGood : EvenAsphere → Bool
+evenGood s = finite (s .curvature) && finite (s .conic) && finite (s .semi) && coefficientsGood (s .coefficients)
+
+unfoldable pub newEven : Float → Float → Coefficients → Float → Told EvenAsphere
+newEven c k a semi =
+    let s : EvenAsphere = record { curvature = c; conic = k; semi = semi; coefficients = a } in
+    if not (evenGood s) || (semi <₆₄ 0f) then refused noEven (plain 2) else gives s
+
+unfoldable pub evenSagAnswer : EvenAsphere → Float → Told Float
+evenSagAnswer s r =
+    if not (finite r && evenGood s) then noNumber 2 else
+    checked9 0f finite (sagOf (evenDepth (s .curvature) (s .conic) (s .coefficients) r))
+
+unfoldable pub evenSlopeAnswer : EvenAsphere → Float → Told Float
+evenSlopeAnswer s r =
+    if not (finite r && evenGood s) then noNumber 2 else
+    checked9 0f finite (evenSlope (s .curvature) (s .conic) (s .coefficients) r)
+
+unfoldable pub evenNormalAnswer : EvenAsphere → Float → Float → Told Vec3
+evenNormalAnswer s x y =
+    if not (finite x && finite y && evenGood s) then noDirection 2 else
+    checked9 zeros allFinite (evenNormal (s .curvature) (s .conic) (s .coefficients) x y)
+
+-- the first coefficient, 0 where there is none
+abbrev pub firstOr0 : List Float → Float
+firstOr0 [] = 0f
+firstOr0 (a ∷ l) = a
+
+unfoldable pub evenParaxial : EvenAsphere → Told Float
+evenParaxial s =
+    if not (evenGood s) then noNumber 2 else
+    checked9 0f finite (gives (s .curvature +₆₄ 2f *₆₄ firstOr0 (terms (s .coefficients))))
+
+unfoldable pub evenCrossingAnswer : EvenAsphere → Ray → Float → Told Landing
+evenCrossingAnswer s ray vertex =
+    if not (rayFinite ray && finite vertex && evenGood s) then noCrossing 2 else
+    if s .semi <₆₄ 0f then noCrossing 2 else
+    checked9 noLanding landingFinite (newtonEnd (evenShape (s .curvature) (s .conic) (s .coefficients) (s .semi)) vertex ray .answer)
+
+-- OddAsphere::sag
+unfoldable pub oddSag : OddAsphere → Float → Told Float
+oddSag s r =
+    let r2 = r *₆₄ r in
+    if not (finite r) || (r <₆₄ 0f) then noNumber 2 else
+    after 0f (baseRoot (s .curvature) (s .conic) r2) (λ t.
+    gives (baseSag (s .curvature) r2 t +₆₄ powerSum (terms (s .even)) r2 r2 +₆₄ powerSum (terms (s .odd)) r r2))
+
+unfoldable pub oddBaseSlope : Float → Float → Float → Float
+oddBaseSlope c r s = if magnitude c <₆₄ 1e-15 then 0f else (c *₆₄ r) /₆₄ larger s 1e-15
+
+unfoldable pub oddSlope : OddAsphere → Float → Told Float
+oddSlope s r =
+    let r2 = r *₆₄ r in
+    after 0f (baseRoot (s .curvature) (s .conic) r2) (λ t.
+    gives (oddBaseSlope (s .curvature) r t +₆₄ slopeSum (terms (s .even)) 2f r r2 +₆₄ slopeSum (terms (s .odd)) 1f 1f r2))
+
+-- near the axis the slope counts as along x
+unfoldable pub oddSlopes : Float → Float → Float → Float → Meridians
+oddSlopes d x y r = if 1e-14 <₆₄ r then meridians (d *₆₄ (x /₆₄ r)) (d *₆₄ (y /₆₄ r)) else meridians d 0f
+
+-- OddAsphere::normal
+unfoldable pub oddNormal : OddAsphere → Float → Float → Told Vec3
+oddNormal s x y =
+    let r = distance x y in
+    if (r <₆₄ 1e-15) && (magnitude (firstOr0 (terms (s .odd))) <₆₄ 1e-14) then gives backwards else
+    after zeros (oddSlope s r) (λ d.
+    let m = oddSlopes d x y r in
+    gives (facingOf (m .x) (m .y) (lengthOf (m .x) (m .y))))
+
+unfoldable pub oddGood : OddAsphere → Bool
+oddGood s = finite (s .curvature) && finite (s .conic) && finite (s .semi) && coefficientsGood (s .even) && coefficientsGood (s .odd)
+
+unfoldable pub newOdd : Float → Float → Coefficients → Coefficients → Float → Told OddAsphere
+newOdd c k even odd semi =
+    let s : OddAsphere = record { curvature = c; conic = k; semi = semi; even = even; odd = odd } in
+    if not (oddGood s) || (semi <₆₄ 0f) then refused noOdd (plain 2) else gives s
+
+unfoldable pub oddSagAnswer : OddAsphere → Float → Told Float
+oddSagAnswer s r =
+    if not (finite r && oddGood s) then noNumber 2 else
+    checked9 0f finite (oddSag s r)
+
+unfoldable pub oddNormalAnswer : OddAsphere → Float → Float → Told Vec3
+oddNormalAnswer s x y =
+    if not (finite x && finite y && oddGood s) then noDirection 2 else
+    checked9 zeros allFinite (oddNormal s x y)

@@ -1,0 +1,201 @@
+-- Biconic and toroidal surfaces. Definitions only.
+use mathlib.Core.Bool.{Bool, true, false, not, _&&_, _||_}
+use lib.Ieee.{Float, neg}
+use lib.Ieee.Scale.{finite}
+use Rattle.numbers.specs.Arithmetic.{_+₆₄_, _-₆₄_, _*₆₄_, _/₆₄_, _<₆₄_, _≤₆₄_, if_then_else_, 0f, 1f, 2f, 1e-14, 1e-15}
+use Rattle.numbers.specs.Basic.{magnitude, larger}
+use Rattle.numbers.specs.Sqrt.{root}
+use Rattle.surfaces.specs.Types.{zeros, allFinite, rayFinite, meridians, noMeridians, bothFinite, noLanding, landingFinite}
+use Rattle.surfaces.specs.Told.{Told, Depths, plain, gives, refused, after, checked9, noNumber, noPair, noDirection, noCrossing, noBiconic, noToroid, depths, noDepths, noDepth, sagOf}
+use Rattle.surfaces.specs.Conic.{signOf}
+use Rattle.surfaces.specs.Newton.{Shape, newtonEnd}
+use Rattle.surfaces.specs.Asphere.{edgeRoot, facingOf, lengthOf}
+use Rattle.surfaces.specs.declared.types.Vec3.{Vec3}
+use Rattle.surfaces.specs.declared.types.Ray.{Ray}
+use Rattle.surfaces.specs.declared.types.Landing.{Landing}
+use Rattle.surfaces.specs.declared.types.Meridians.{Meridians}
+use Rattle.surfaces.specs.declared.biconic.BiconicSurface.{BiconicSurface}
+use Rattle.surfaces.specs.declared.biconic.ToroidalSurface.{ToroidalSurface}
+
+unfoldable pub numeratorOf : Float → Float → Float → Float → Float
+numeratorOf cx cy x y = cx *₆₄ x *₆₄ x +₆₄ cy *₆₄ y *₆₄ y
+
+unfoldable pub biconicRadicand : Float → Float → Float → Float → Float → Float → Float
+biconicRadicand cx kx cy ky x y =
+    1f -₆₄ (1f +₆₄ kx) *₆₄ cx *₆₄ cx *₆₄ x *₆₄ x -₆₄ (1f +₆₄ ky) *₆₄ cy *₆₄ cy *₆₄ y *₆₄ y
+
+-- BiconicSurface::sag
+unfoldable pub biconicDepth : Float → Float → Float → Float → Float → Float → Told Depths
+biconicDepth cx kx cy ky x y =
+    let num = numeratorOf cx cy x y in
+    if not (finite x && finite y) then noDepth 2 else
+    after noDepths (edgeRoot (biconicRadicand cx kx cy ky x y)) (λ s.
+    gives (depths (num /₆₄ (1f +₆₄ s)) s num))
+
+unfoldable pub onAxis : Float → Float → Bool
+onAxis x y = (magnitude x <₆₄ 1e-15) && (magnitude y <₆₄ 1e-15)
+
+-- the slope along one meridian, of curvature c and conic constant k
+unfoldable pub meridianSlope : Float → Float → Float → Float → Float → Float
+meridianSlope c k x num s =
+    let s1 = 1f +₆₄ s in
+    (2f *₆₄ c *₆₄ x) /₆₄ s1 +₆₄ (num *₆₄ (1f +₆₄ k) *₆₄ c *₆₄ c *₆₄ x) /₆₄ (s *₆₄ (s1 *₆₄ s1))
+
+-- the slopes off the axis, given the sag's numerator and root
+unfoldable pub biconicSlopesAt : Float → Float → Float → Float → Float → Float → Float → Float → Told Meridians
+biconicSlopesAt cx kx cy ky x y num s =
+    if s ≤₆₄ 1e-14 then noPair 4 else
+    gives (meridians (meridianSlope cx kx x num s) (meridianSlope cy ky y num s))
+
+-- BiconicSurface::derivatives
+unfoldable pub biconicSlopes : Float → Float → Float → Float → Float → Float → Told Meridians
+biconicSlopes cx kx cy ky x y =
+    if onAxis x y then gives noMeridians else
+    after noMeridians (edgeRoot (biconicRadicand cx kx cy ky x y)) (biconicSlopesAt cx kx cy ky x y (numeratorOf cx cy x y))
+
+-- the same, given the sag's numerator and root
+unfoldable pub biconicSlopesFrom : Float → Float → Float → Float → Float → Float → Float → Float → Told Meridians
+biconicSlopesFrom cx kx cy ky x y num s =
+    if onAxis x y then gives noMeridians else
+    biconicSlopesAt cx kx cy ky x y num s
+
+-- the unit normal of slopes, without a test of its own
+unfoldable pub normalOf : Told Meridians → Told Vec3
+normalOf slopes = after zeros slopes (λ m. gives (facingOf (m .x) (m .y) (lengthOf (m .x) (m .y))))
+
+-- BiconicSurface::normal
+unfoldable pub biconicNormal : Float → Float → Float → Float → Float → Float → Told Vec3
+biconicNormal cx kx cy ky x y = normalOf (biconicSlopes cx kx cy ky x y)
+
+abbrev pub biconicShape : Float → Float → Float → Float → Float → Shape
+biconicShape cx kx cy ky semi = record {
+  sag = λ r p. biconicDepth cx kx cy ky (p .x) (p .y);
+  slopes = λ r p. biconicSlopes cx kx cy ky (p .x) (p .y);
+  semi = semi;
+  checksLast = true;
+  limit = 35;
+}
+
+unfoldable pub biconicGood : BiconicSurface → Bool
+biconicGood s = finite (s .cx) && finite (s .kx) && finite (s .cy) && finite (s .ky) && finite (s .semi)
+
+unfoldable pub newBiconic : Float → Float → Float → Float → Float → Told BiconicSurface
+newBiconic cx kx cy ky semi =
+    let s : BiconicSurface = record { cx = cx; kx = kx; cy = cy; ky = ky; semi = semi } in
+    if not (biconicGood s) || (semi <₆₄ 0f) then refused noBiconic (plain 2) else gives s
+
+unfoldable pub biconicSagAnswer : BiconicSurface → Float → Float → Told Float
+biconicSagAnswer s x y =
+    if not (finite x && finite y && biconicGood s) then noNumber 2 else
+    checked9 0f finite (sagOf (biconicDepth (s .cx) (s .kx) (s .cy) (s .ky) x y))
+
+unfoldable pub biconicSlopesAnswer : BiconicSurface → Float → Float → Told Meridians
+biconicSlopesAnswer s x y =
+    if not (finite x && finite y && biconicGood s) then noPair 2 else
+    checked9 noMeridians bothFinite (biconicSlopes (s .cx) (s .kx) (s .cy) (s .ky) x y)
+
+unfoldable pub biconicNormalAnswer : BiconicSurface → Float → Float → Told Vec3
+biconicNormalAnswer s x y =
+    if not (finite x && finite y && biconicGood s) then noDirection 2 else
+    checked9 zeros allFinite (biconicNormal (s .cx) (s .kx) (s .cy) (s .ky) x y)
+
+unfoldable pub biconicCrossingAnswer : BiconicSurface → Ray → Float → Told Landing
+biconicCrossingAnswer s ray vertex =
+    if not (rayFinite ray && finite vertex && biconicGood s) then noCrossing 2 else
+    if s .semi <₆₄ 0f then noCrossing 2 else
+    checked9 noLanding landingFinite (newtonEnd (biconicShape (s .cx) (s .kx) (s .cy) (s .ky) (s .semi)) vertex ray .answer)
+
+unfoldable pub biconicParaxial : BiconicSurface → Told Meridians
+biconicParaxial s = if not (biconicGood s) then noPair 2 else gives (meridians (s .cx) (s .cy))
+
+-- the toroid's base curve in the y-z plane
+unfoldable pub baseCurveSag : Float → Float → Float → Told Float
+baseCurveSag cy ky y =
+    let y2 = y *₆₄ y in
+    after 0f (edgeRoot (1f -₆₄ (1f +₆₄ ky) *₆₄ cy *₆₄ cy *₆₄ y2)) (λ s.
+    gives ((cy *₆₄ y2) /₆₄ (1f +₆₄ s)))
+
+-- the circle rolled about it, whose radius at y is `term`
+unfoldable pub circleDepth : Float → Float → Float → Told Depths
+circleDepth rx x term =
+    after noDepths (edgeRoot (term *₆₄ term -₆₄ x *₆₄ x)) (λ s.
+    gives (depths (rx -₆₄ signOf rx *₆₄ s) s term))
+
+-- ToroidalSurface::sag, which has no test of x and y
+unfoldable pub toroidDepth : Float → Float → Float → Float → Float → Told Depths
+toroidDepth rx cy ky x y = after noDepths (baseCurveSag cy ky y) (λ zy. circleDepth rx x (rx -₆₄ zy))
+
+-- its radicand groups otherwise than the sag's
+unfoldable pub baseCurveSlope : Float → Float → Float → Float
+baseCurveSlope cy ky y =
+    let s = root (larger (1f -₆₄ (1f +₆₄ ky) *₆₄ cy *₆₄ cy *₆₄ y *₆₄ y) 0f) in
+    if 1e-14 <₆₄ s then (cy *₆₄ y) /₆₄ s else 0f
+
+-- the slopes where the circle has the radius `term` and the root s
+unfoldable pub circleSlopesAt : Float → Float → Float → Float → Float → Float → Float → Meridians
+circleSlopesAt rx cy ky x y term s = meridians
+    (signOf rx *₆₄ x /₆₄ s)
+    (signOf rx *₆₄ (term /₆₄ s) *₆₄ baseCurveSlope cy ky y)
+
+unfoldable pub circleSlopes : Float → Float → Float → Float → Float → Float → Told Meridians
+circleSlopes rx cy ky x y term =
+    let radicand = term *₆₄ term -₆₄ x *₆₄ x in
+    if radicand ≤₆₄ 1e-14 then noPair 5 else
+    gives (circleSlopesAt rx cy ky x y term (root radicand))
+
+-- ToroidalSurface::derivatives
+unfoldable pub toroidSlopes : Float → Float → Float → Float → Float → Told Meridians
+toroidSlopes rx cy ky x y = after noMeridians (baseCurveSag cy ky y) (λ zy. circleSlopes rx cy ky x y (rx -₆₄ zy))
+
+-- the root of a radicand, given that of its maximum with 0
+unfoldable pub rootAgain : Float → Float → Float
+rootAgain radicand s = if 0f <₆₄ radicand then s else root radicand
+
+-- the slopes, given the radius and the root that the sag had
+unfoldable pub toroidSlopesFrom : Float → Float → Float → Float → Float → Float → Float → Told Meridians
+toroidSlopesFrom rx cy ky x y term s =
+    let radicand = term *₆₄ term -₆₄ x *₆₄ x in
+    if radicand ≤₆₄ 1e-14 then noPair 5 else
+    gives (circleSlopesAt rx cy ky x y term (rootAgain radicand s))
+
+-- ToroidalSurface::normal
+unfoldable pub toroidNormal : Float → Float → Float → Float → Float → Told Vec3
+toroidNormal rx cy ky x y = normalOf (toroidSlopes rx cy ky x y)
+
+abbrev pub toroidShape : Float → Float → Float → Float → Shape
+toroidShape rx cy ky semi = record {
+  sag = λ r p. toroidDepth rx cy ky (p .x) (p .y);
+  slopes = λ r p. toroidSlopes rx cy ky (p .x) (p .y);
+  semi = semi;
+  checksLast = true;
+  limit = 35;
+}
+
+unfoldable pub toroidGood : ToroidalSurface → Bool
+toroidGood s = finite (s .rx) && finite (s .cy) && finite (s .ky) && finite (s .semi)
+
+unfoldable pub newToroid : Float → Float → Float → Float → Told ToroidalSurface
+newToroid rx cy ky semi =
+    let s : ToroidalSurface = record { rx = rx; cy = cy; ky = ky; semi = semi } in
+    if not (toroidGood s) || (semi <₆₄ 0f) then refused noToroid (plain 2) else gives s
+
+unfoldable pub toroidSagAnswer : ToroidalSurface → Float → Float → Told Float
+toroidSagAnswer s x y =
+    if not (finite x && finite y && toroidGood s) then noNumber 2 else
+    checked9 0f finite (sagOf (toroidDepth (s .rx) (s .cy) (s .ky) x y))
+
+unfoldable pub toroidSlopesAnswer : ToroidalSurface → Float → Float → Told Meridians
+toroidSlopesAnswer s x y =
+    if not (finite x && finite y && toroidGood s) then noPair 2 else
+    checked9 noMeridians bothFinite (toroidSlopes (s .rx) (s .cy) (s .ky) x y)
+
+unfoldable pub toroidNormalAnswer : ToroidalSurface → Float → Float → Told Vec3
+toroidNormalAnswer s x y =
+    if not (finite x && finite y && toroidGood s) then noDirection 2 else
+    checked9 zeros allFinite (toroidNormal (s .rx) (s .cy) (s .ky) x y)
+
+unfoldable pub toroidCrossingAnswer : ToroidalSurface → Ray → Float → Told Landing
+toroidCrossingAnswer s ray vertex =
+    if not (rayFinite ray && finite vertex && toroidGood s) then noCrossing 2 else
+    if s .semi <₆₄ 0f then noCrossing 2 else
+    checked9 noLanding landingFinite (newtonEnd (toroidShape (s .rx) (s .cy) (s .ky) (s .semi)) vertex ray .answer)

@@ -1,0 +1,96 @@
+-- The kinds of surfaces together, for a trace: one pass, what ends a surface, and how a ray goes on. Definitions only.
+use Prim.Native.Nat.{ℕ, zero, suc}
+use mathlib.Core.Bool.{Bool, true, false}
+use lib.Ieee.{Float}
+use Rattle.numbers.specs.Arithmetic.{_<₆₄_, if_then_else_, 0f}
+use Rattle.surfaces.specs.Types.{dotOf, zeros}
+use Rattle.surfaces.specs.Told.{Told, Depths, Ended, gives, after, again, ended, noLeaving}
+use Rattle.surfaces.specs.Snell.{reflected, refracted}
+use Rattle.surfaces.specs.Conic.{conicSurface, conicCrossing, normalAt}
+use Rattle.surfaces.specs.Newton.{Shape, newtonEnd, limitedPass, going}
+use Rattle.surfaces.specs.Asphere.{evenShape, evenSlopesFrom, evenNormal}
+use Rattle.surfaces.specs.Biconic.{biconicShape, biconicSlopesFrom, biconicNormal, toroidShape, toroidSlopesFrom, toroidNormal}
+use Rattle.surfaces.specs.declared.types.Vec3.{Vec3}
+use Rattle.surfaces.specs.declared.types.Ray.{Ray}
+use Rattle.surfaces.specs.declared.types.Landing.{Landing}
+use Rattle.surfaces.specs.declared.types.Meridians.{Meridians}
+use Rattle.surfaces.specs.declared.types.Coefficients.{Coefficients}
+use Rattle.surfaces.specs.declared.conic.ConicSurface.{ConicSurface}
+use Rattle.surfaces.specs.declared.surface.Profile.{Profile}
+use Rattle.surfaces.specs.declared.surface.Profile.the-variants as profile
+use Rattle.surfaces.specs.declared.surface.Kind.{Kind}
+use Rattle.surfaces.specs.declared.surface.Kind.the-variants.{Conic, Even, Biconic, Toroid}
+use Rattle.surfaces.specs.declared.surface.Surface.{Surface}
+use Rattle.surfaces.specs.declared.surface.Boundary.{Boundary}
+use Rattle.surfaces.specs.declared.surface.Boundary.the-variants.{Mirror, Media}
+use Rattle.surfaces.specs.declared.surface.Leaving.{Leaving}
+
+-- what a kind that Newton's method meets brings to it
+abbrev pub shapeOf : Profile → Coefficients → Float → Shape
+shapeOf (profile.Even c k) a semi = evenShape c k a semi
+shapeOf (profile.Biconic cx kx cy ky) a semi = biconicShape cx kx cy ky semi
+shapeOf (profile.Toroid rx cy ky) a semi = toroidShape rx cy ky semi
+
+-- its slopes at a point, given the root and the other number that the sag there had
+unfoldable pub slopesFrom : Profile → Coefficients → Float → Vec3 → Float → Float → Told Meridians
+slopesFrom (profile.Even c k) a r p s part = evenSlopesFrom c a (p .x) (p .y) r s
+slopesFrom (profile.Biconic cx kx cy ky) a r p s part = biconicSlopesFrom cx kx cy ky (p .x) (p .y) part s
+slopesFrom (profile.Toroid rx cy ky) a r p s part = toroidSlopesFrom rx cy ky (p .x) (p .y) part s
+
+abbrev pub conicOf : Surface → Float → Float → ConicSurface
+conicOf s c k = conicSurface (s .vertex) c k (s .semi)
+
+-- one pass over a surface, after `made` passes from t; a conic is met in one
+abbrev pub passBy : Kind → Surface → Ray → ℕ → Float → Told Landing
+passBy (Conic c k) s ray made t = conicCrossing ray (conicOf s c k)
+passBy (Even c k) s ray made t = limitedPass (evenShape c k (s .coefficients) (s .semi)) (s .vertex) ray made t
+passBy (Biconic cx kx cy ky) s ray made t = limitedPass (biconicShape cx kx cy ky (s .semi)) (s .vertex) ray made t
+passBy (Toroid rx cy ky) s ray made t = limitedPass (toroidShape rx cy ky (s .semi)) (s .vertex) ray made t
+
+unfoldable pub passRule : Surface → Ray → ℕ → Float → Told Landing
+passRule s ray made t = passBy (s .kind) s ray made t
+
+-- the end of a surface by its kind's own rule, with the passes that it takes
+abbrev pub endBy : Kind → Surface → Ray → Ended
+endBy (Conic c k) s ray = ended (conicCrossing ray (conicOf s c k)) 1
+endBy (Even c k) s ray = newtonEnd (evenShape c k (s .coefficients) (s .semi)) (s .vertex) ray
+endBy (Biconic cx kx cy ky) s ray = newtonEnd (biconicShape cx kx cy ky (s .semi)) (s .vertex) ray
+endBy (Toroid rx cy ky) s ray = newtonEnd (toroidShape rx cy ky (s .semi)) (s .vertex) ray
+
+unfoldable pub surfaceEnd : Surface → Ray → Ended
+surfaceEnd s ray = endBy (s .kind) s ray
+
+-- how many passes it may take
+abbrev pub limitBy : Kind → ℕ
+limitBy (Conic c k) = 1
+limitBy (Even c k) = 25
+limitBy (Biconic cx kx cy ky) = 35
+limitBy (Toroid rx cy ky) = 35
+
+-- passes one after another, so many at most
+unfoldable pub chain : Surface → Ray → ℕ → ℕ → Float → Ended
+chain s ray zero made t = ended (again t) made
+chain s ray (suc n) made t =
+    let x = passRule s ray made t in
+    if going x then chain s ray n (suc made) (x .value .t) else ended x (suc made)
+
+abbrev pub normalBy : Kind → Surface → Vec3 → Told Vec3
+normalBy (Conic c k) s p = normalAt p (conicOf s c k)
+normalBy (Even c k) s p = evenNormal c k (s .coefficients) (p .x) (p .y)
+normalBy (Biconic cx kx cy ky) s p = biconicNormal cx kx cy ky (p .x) (p .y)
+normalBy (Toroid rx cy ky) s p = toroidNormal rx cy ky (p .x) (p .y)
+
+unfoldable pub surfaceNormal : Surface → Vec3 → Told Vec3
+surfaceNormal s p = normalBy (s .kind) s p
+
+-- a mirror reflects, and media refract
+unfoldable pub onwardFrom : Vec3 → Vec3 → Boundary → Told Vec3
+onwardFrom i n Mirror = reflected i n
+onwardFrom i n (Media n1 n2) = refracted i n n1 n2
+
+-- how a ray goes on from a point: normal, new direction, front face
+unfoldable pub turnRule : Surface → Vec3 → Vec3 → Boundary → Told Leaving
+turnRule s i p b =
+    after noLeaving (surfaceNormal s p) (λ n.
+    after noLeaving (onwardFrom i n b) (λ v.
+    gives (record { normal = n; direction = v; front = dotOf i n <₆₄ 0f })))

@@ -1,0 +1,218 @@
+-- What comes back, in document 01's terms: a line of its table and the answer's values. The rules speak in these terms, and what each answer of the
+-- code tells stands below. Definitions only.
+use Prim.Native.Nat.{ℕ}
+use mathlib.Core.Bool.{Bool, true, false, not, _&&_}
+use lib.Dec.{eqb}
+use lib.Ieee.{Float}
+use Rattle.numbers.specs.Arithmetic.{if_then_else_, 0f}
+use Rattle.surfaces.specs.Types.{zeros, noMeridians, landing, noLanding, noHit, noCoefficients}
+use Rattle.surfaces.specs.declared.types.Vec3.{Vec3}
+use Rattle.surfaces.specs.declared.types.Landing.{Landing}
+use Rattle.surfaces.specs.declared.types.HitRecord.{HitRecord}
+use Rattle.surfaces.specs.declared.types.Meridians.{Meridians}
+use Rattle.surfaces.specs.declared.refusal.Refusal.{Refusal}
+use Rattle.surfaces.specs.declared.refusal.Refusal.the-variants.{InvalidParameter, InvalidSurface, NumericalSingularity, GeometryOutsideAperture, RayMissedSurface, RayVignetted, TotalInternalReflection, NotFinite}
+use Rattle.surfaces.specs.declared.refusal.Verdict.{Verdict}
+use Rattle.surfaces.specs.declared.refusal.Verdict.the-variants as verdict
+use Rattle.surfaces.specs.declared.refusal.Number.{Number}
+use Rattle.surfaces.specs.declared.refusal.Number.the-variants as number
+use Rattle.surfaces.specs.declared.refusal.Sag.{Sag}
+use Rattle.surfaces.specs.declared.refusal.Sag.the-variants as sag
+use Rattle.surfaces.specs.declared.refusal.Pair.{Pair}
+use Rattle.surfaces.specs.declared.refusal.Pair.the-variants as pair
+use Rattle.surfaces.specs.declared.refusal.Direction.{Direction}
+use Rattle.surfaces.specs.declared.refusal.Direction.the-variants as direction
+use Rattle.surfaces.specs.declared.refusal.Crossing.{Crossing}
+use Rattle.surfaces.specs.declared.refusal.Crossing.the-variants as crossing
+use Rattle.surfaces.specs.declared.conic.ConicSurface.{ConicSurface}
+use Rattle.surfaces.specs.declared.conic.NewConic.{NewConic}
+use Rattle.surfaces.specs.declared.conic.NewConic.the-variants as new-conic
+use Rattle.surfaces.specs.declared.conic.Meet.{Meet}
+use Rattle.surfaces.specs.declared.conic.Meet.the-variants as meet
+use Rattle.surfaces.specs.declared.asphere.EvenAsphere.{EvenAsphere}
+use Rattle.surfaces.specs.declared.asphere.NewEven.{NewEven}
+use Rattle.surfaces.specs.declared.asphere.OddAsphere.{OddAsphere}
+use Rattle.surfaces.specs.declared.asphere.NewOdd.{NewOdd}
+use Rattle.surfaces.specs.declared.asphere.Depth.{Depth}
+use Rattle.surfaces.specs.declared.asphere.Depth.the-variants as depth
+use Rattle.surfaces.specs.declared.biconic.BiconicSurface.{BiconicSurface}
+use Rattle.surfaces.specs.declared.biconic.NewBiconic.{NewBiconic}
+use Rattle.surfaces.specs.declared.biconic.NewBiconic.the-variants as new-biconic
+use Rattle.surfaces.specs.declared.biconic.ToroidalSurface.{ToroidalSurface}
+use Rattle.surfaces.specs.declared.biconic.NewToroid.{NewToroid}
+use Rattle.surfaces.specs.declared.biconic.NewToroid.the-variants as new-toroid
+use Rattle.surfaces.specs.declared.surface.Passed.{Passed}
+use Rattle.surfaces.specs.declared.surface.Passed.the-variants as passed
+use Rattle.surfaces.specs.declared.surface.End.{End}
+use Rattle.surfaces.specs.declared.surface.Leaving.{Leaving}
+use Rattle.surfaces.specs.declared.surface.Turned.{Turned}
+use Rattle.surfaces.specs.declared.surface.Turned.the-variants as turned
+
+-- a line of the table "What comes back": its number, and r and the semi-diameter, which a 7 names
+pub record Line : Type 0 where
+  pub number : ℕ
+  pub r : Float
+  pub limit : Float
+
+-- what is told: a line of the table, and the answer's own values
+pub record Told (A : Type 0) : Type 0 where
+  pub line : Line
+  pub value : A
+
+abbrev pub plain : ℕ → Line
+plain n = record { number = n; r = 0f; limit = 0f }
+
+abbrev pub vignetted : Float → Float → Line
+vignetted r limit = record { number = 7; r = r; limit = limit }
+
+-- 1, with the answer's values
+abbrev pub gives : {A : Type 0} → A → Told A
+gives a = record { line = plain 1; value = a }
+
+-- a refusal's line, with `blank` for the answer's values: +0.0 in every number
+abbrev pub refused : {A : Type 0} → A → Line → Told A
+refused blank l = record { line = l; value = blank }
+
+abbrev pub done : {A : Type 0} → Told A → Bool
+done t = eqb (t .line .number) 1
+
+-- what follows from an answer, or its refusal passed on
+abbrev pub after : {A B : Type 0} → B → Told A → (A → Told B) → Told B
+after blank t next = if done t then next (t .value) else refused blank (t .line)
+
+-- 9 comes last: an answer with a number that is not finite
+abbrev pub checked9 : {A : Type 0} → A → (A → Bool) → Told A → Told A
+checked9 blank good t = if done t && not (good (t .value)) then refused blank (plain 9) else t
+
+-- a refusal by number alone, in place of each kind of answer
+abbrev pub noNumber : ℕ → Told Float
+noNumber n = refused 0f (plain n)
+
+abbrev pub noPair : ℕ → Told Meridians
+noPair n = refused noMeridians (plain n)
+
+abbrev pub noDirection : ℕ → Told Vec3
+noDirection n = refused zeros (plain n)
+
+abbrev pub noCrossing : ℕ → Told Landing
+noCrossing n = refused noLanding (plain n)
+
+abbrev pub lineOf : Refusal → Line
+lineOf InvalidParameter = plain 2
+lineOf InvalidSurface = plain 3
+lineOf NumericalSingularity = plain 4
+lineOf GeometryOutsideAperture = plain 5
+lineOf RayMissedSurface = plain 6
+lineOf (RayVignetted r limit) = vignetted r limit
+lineOf TotalInternalReflection = plain 8
+lineOf NotFinite = plain 9
+
+abbrev pub toldNumber : Number → Told Float
+toldNumber (number.Is x) = gives x
+toldNumber (number.Refused e) = refused 0f (lineOf e)
+
+abbrev pub toldSag : Sag → Told Float
+toldSag (sag.At z) = gives z
+toldSag (sag.Refused e) = refused 0f (lineOf e)
+
+abbrev pub toldPair : Pair → Told Meridians
+toldPair (pair.Both m) = gives m
+toldPair (pair.Refused e) = refused noMeridians (lineOf e)
+
+abbrev pub toldDirection : Direction → Told Vec3
+toldDirection (direction.To v) = gives v
+toldDirection (direction.Refused e) = refused zeros (lineOf e)
+
+abbrev pub toldCrossing : Crossing → Told Landing
+toldCrossing (crossing.At l) = gives l
+toldCrossing (crossing.Refused e) = refused noLanding (lineOf e)
+
+abbrev pub toldMeet : Meet → Told HitRecord
+toldMeet (meet.Hit h) = gives h
+toldMeet (meet.Refused e) = refused noHit (lineOf e)
+
+-- constructors: a refused surface is blank, its coefficients among it
+abbrev pub noConic : ConicSurface
+noConic = record { vertex = 0f; curvature = 0f; conic = 0f; semi = 0f }
+
+abbrev pub noEven : EvenAsphere
+noEven = record { curvature = 0f; conic = 0f; semi = 0f; coefficients = noCoefficients }
+
+abbrev pub noOdd : OddAsphere
+noOdd = record { curvature = 0f; conic = 0f; semi = 0f; even = noCoefficients; odd = noCoefficients }
+
+abbrev pub noBiconic : BiconicSurface
+noBiconic = record { cx = 0f; kx = 0f; cy = 0f; ky = 0f; semi = 0f }
+
+abbrev pub noToroid : ToroidalSurface
+noToroid = record { rx = 0f; cy = 0f; ky = 0f; semi = 0f }
+
+abbrev pub toldConic : NewConic → Told ConicSurface
+toldConic (new-conic.Made s) = gives s
+toldConic (new-conic.Refused e) = refused noConic (lineOf e)
+
+abbrev pub toldBiconic : NewBiconic → Told BiconicSurface
+toldBiconic (new-biconic.Made s) = gives s
+toldBiconic (new-biconic.Refused e) = refused noBiconic (lineOf e)
+
+abbrev pub toldToroid : NewToroid → Told ToroidalSurface
+toldToroid (new-toroid.Made s) = gives s
+toldToroid (new-toroid.Refused e) = refused noToroid (lineOf e)
+
+abbrev pub verdictLine : Verdict → Line
+verdictLine verdict.Accepted = plain 1
+verdictLine (verdict.Refused e) = lineOf e
+
+abbrev pub toldEven : NewEven → Told EvenAsphere
+toldEven n = record { line = verdictLine (n .verdict); value = n .surface }
+
+abbrev pub toldOdd : NewOdd → Told OddAsphere
+toldOdd n = record { line = verdictLine (n .verdict); value = n .surface }
+
+-- a raw sag, with what the slopes at the same point need of it
+pub record Depths : Type 0 where
+  pub sag : Float
+  pub root : Float
+  pub part : Float
+
+abbrev pub depths : Float → Float → Float → Depths
+depths z s p = record { sag = z; root = s; part = p }
+
+abbrev pub noDepths : Depths
+noDepths = depths 0f 0f 0f
+
+abbrev pub noDepth : ℕ → Told Depths
+noDepth n = refused noDepths (plain n)
+
+abbrev pub toldDepth : Depth → Told Depths
+toldDepth (depth.At z s p) = gives (depths z s p)
+toldDepth (depth.Refused e) = refused noDepths (lineOf e)
+
+unfoldable pub sagOf : Told Depths → Told Float
+sagOf d = record { line = d .line; value = d .value .sag }
+
+-- a pass that has not ended tells 0, and the t of the next one
+abbrev pub again : Float → Told Landing
+again t = record { line = plain 0; value = landing t zeros }
+
+abbrev pub toldPassed : Passed → Told Landing
+toldPassed (passed.Ended x) = toldCrossing x
+toldPassed (passed.Again t) = again t
+
+-- an end, and the passes that it took
+pub record Ended : Type 0 where
+  pub answer : Told Landing
+  pub passes : ℕ
+
+abbrev pub ended : Told Landing → ℕ → Ended
+ended x n = record { answer = x; passes = n }
+
+abbrev pub toldEnd : End → Ended
+toldEnd e = ended (toldCrossing (e .crossing)) (e .passes)
+
+abbrev pub noLeaving : Leaving
+noLeaving = record { normal = zeros; direction = zeros; front = false }
+
+abbrev pub toldTurned : Turned → Told Leaving
+toldTurned (turned.To t) = gives t
+toldTurned (turned.Refused e) = refused noLeaving (lineOf e)

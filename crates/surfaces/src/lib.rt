@@ -1,0 +1,47 @@
+// Optical surfaces as in the Rust: where a ray meets one, and how it goes on. No function asks anything of its caller, and each says
+// what it answers to every argument.
+mod asphere;
+mod biconic;
+mod conic;
+mod refusal;
+mod snell;
+mod surface;
+mod types;
+
+pub use asphere::EvenAsphere;
+pub use asphere::NewEven;
+pub use asphere::NewOdd;
+pub use asphere::OddAsphere;
+pub use biconic::BiconicSurface;
+pub use biconic::NewBiconic;
+pub use biconic::NewToroid;
+pub use biconic::ToroidalSurface;
+pub use conic::ConicSurface;
+pub use conic::Meet;
+pub use conic::NewConic;
+pub use conic::conic_normal;
+pub use conic::conic_sag;
+pub use conic::intersect_conic;
+pub use refusal::Crossing;
+pub use refusal::Direction;
+pub use refusal::Number;
+pub use refusal::Pair;
+pub use refusal::Refusal;
+pub use refusal::Sag;
+pub use refusal::Verdict;
+pub use snell::reflect;
+pub use snell::snell_refract;
+pub use surface::Boundary;
+pub use surface::Kind;
+pub use surface::Leaving;
+pub use surface::Passed;
+pub use surface::Surface;
+pub use surface::Turned;
+pub use surface::pass;
+pub use surface::turn;
+pub use types::Coefficients;
+pub use types::HitRecord;
+pub use types::Landing;
+pub use types::Meridians;
+pub use types::Ray;
+pub use types::Vec3;

@@ -1,0 +1,345 @@
+// The kinds of surfaces together: Newton's method, and the two functions that a trace over any of them calls.
+ghost use mathlib.Core.Path.{_≡_};
+ghost use Rattle.numbers.specs.Arithmetic.{0f};
+ghost use Rattle.surfaces.specs.Types.{noCoefficients};
+ghost use Rattle.surfaces.specs.Told.{toldPair, toldDirection, toldCrossing, toldDepth, toldPassed, toldEnd, toldTurned, noCrossing};
+ghost use Rattle.surfaces.specs.Newton.{arrivedAt, movedBy, passAt, vertexPlane, nextPass, limitedPass, newtonEnd};
+ghost use Rattle.surfaces.specs.Surface.{shapeOf, slopesFrom, conicOf, passRule, surfaceNormal, onwardFrom, turnRule};
+use crate::asphere::Depth;
+use crate::asphere::even_depth;
+use crate::asphere::even_normal;
+use crate::asphere::even_slopes_from;
+use crate::biconic::biconic_depth;
+use crate::biconic::biconic_normal;
+use crate::biconic::biconic_slopes_from;
+use crate::biconic::toroid_depth;
+use crate::biconic::toroid_normal;
+use crate::biconic::toroid_slopes_from;
+use crate::conic::ConicSurface;
+use crate::conic::crossing;
+use crate::conic::landed_within;
+use crate::conic::normal_at;
+use crate::refusal::Crossing;
+use crate::refusal::Direction;
+use crate::refusal::Pair;
+use crate::refusal::Refusal;
+use crate::snell::raw_reflect;
+use crate::snell::raw_refract;
+use crate::types::Coefficients;
+use crate::types::Landing;
+use crate::types::Meridians;
+use crate::types::Ray;
+use crate::types::Vec3;
+use crate::types::dot;
+use crate::types::point_at;
+use crate::types::radius;
+use numbers::abs;
+
+// A conic has c and k; an even asphere c and k, with coefficients beside; a biconic cx, kx, cy and ky; a toroid rx, cy and ky.
+pub enum Kind {
+    Conic(f64, f64),
+    Even(f64, f64),
+    Biconic(f64, f64, f64, f64),
+    Toroid(f64, f64, f64),
+}
+
+pub struct Surface {
+    pub vertex: f64,
+    pub semi: f64,
+    pub kind: Kind,
+    pub coefficients: Coefficients,
+}
+
+// The kinds that Newton's method meets.
+pub enum Profile {
+    Even(f64, f64),
+    Biconic(f64, f64, f64, f64),
+    Toroid(f64, f64, f64),
+}
+
+// What a pass comes to: an end, or the t of the next pass.
+pub enum Passed {
+    Ended(Crossing),
+    Again(f64),
+}
+
+// How an intersection ended, after how many passes.
+pub struct End {
+    pub crossing: Crossing,
+    pub passes: u16,
+}
+
+fn depth(q: Profile, a: Coefficients, semi: f64, p: Vec3, r: f64) -> Depth
+    ensures { λ d. ⌜ toldDepth d ≡ shapeOf q a semi .sag r p ⌝ }
+{
+    match q {
+        Profile::Even(c, k) => even_depth(c, k, a, r),
+        Profile::Biconic(cx, kx, cy, ky) => biconic_depth(cx, kx, cy, ky, p.x, p.y),
+        Profile::Toroid(rx, cy, ky) => toroid_depth(rx, cy, ky, p.x, p.y),
+    }
+}
+
+// The slopes at p, from the root and the other number that the sag there had.
+fn slopes_from(q: Profile, a: Coefficients, p: Vec3, r: f64, s: f64, part: f64) -> Pair
+    ensures { λ m. ⌜ toldPair m ≡ slopesFrom q a r p s part ⌝ }
+{
+    match q {
+        Profile::Even(c, _) => even_slopes_from(c, a, p.x, p.y, r, s),
+        Profile::Biconic(cx, kx, cy, ky) => biconic_slopes_from(cx, kx, cy, ky, p.x, p.y, part, s),
+        Profile::Toroid(rx, cy, ky) => toroid_slopes_from(rx, cy, ky, p.x, p.y, part, s),
+    }
+}
+
+// Whether r is checked where the move is small: not on an even asphere.
+fn checks_last(q: Profile) -> bool
+    ensures { λ b. ⌜ b ≡ shapeOf q noCoefficients 0f .checksLast ⌝ }
+{
+    match q {
+        Profile::Even(_, _) => false,
+        Profile::Biconic(_, _, _, _) => true,
+        Profile::Toroid(_, _, _) => true,
+    }
+}
+
+fn limit(q: Profile) -> u16
+    ensures { λ n. ⌜ n ≡ shapeOf q noCoefficients 0f .limit ⌝ }
+{
+    match q {
+        Profile::Even(_, _) => 25,
+        Profile::Biconic(_, _, _, _) => 35,
+        Profile::Toroid(_, _, _) => 35,
+    }
+}
+
+// Where the move was small.
+fn arrived(checks: bool, semi: f64, ray: Ray, t: f64) -> Crossing
+    ensures { λ x. ⌜ toldCrossing x ≡ arrivedAt checks semi ray t ⌝ }
+{
+    let p = point_at(ray, t);
+    if checks {
+        landed_within(t, p, radius(p.x, p.y), semi)
+    } else {
+        Crossing::At(Landing { t, point: p })
+    }
+}
+
+// The move from t, by the residual f and the slopes.
+fn moved(checks: bool, semi: f64, ray: Ray, t: f64, f: f64, m: Meridians) -> Passed
+    ensures { λ x. ⌜ toldPassed x ≡ movedBy checks semi ray t f m ⌝ }
+{
+    let d = ray.direction;
+    let slope = d.z - (m.x * d.x + m.y * d.y);
+    if abs(slope) < 1e-15 {
+        return Passed::Ended(Crossing::Refused(Refusal::NumericalSingularity));
+    }
+    let delta = f / slope;
+    if abs(delta) < 1e-12 {
+        return Passed::Ended(arrived(checks, semi, ray, t - delta));
+    }
+    Passed::Again(t - delta)
+}
+
+fn missed() -> Passed
+    ensures { λ x. ⌜ toldPassed x ≡ noCrossing 6 ⌝ }
+{
+    Passed::Ended(Crossing::Refused(Refusal::RayMissedSurface))
+}
+
+// A pass from t.
+fn pass_at(q: Profile, a: Coefficients, semi: f64, vertex: f64, ray: Ray, t: f64) -> Passed
+    ensures { λ x. ⌜ toldPassed x ≡ passAt (shapeOf q a semi) vertex ray t ⌝ }
+{
+    let p = point_at(ray, t);
+    let r = radius(p.x, p.y);
+    if r > semi * 1.5 {
+        return missed();
+    }
+    match depth(q, a, semi, p, r) {
+        Depth::At(z, s, part) => {
+            let f = p.z - vertex - z;
+            if abs(f) < 1e-11 {
+                return Passed::Ended(landed_within(t, p, r, semi));
+            }
+            match slopes_from(q, a, p, r, s, part) {
+                Pair::Both(m) => moved(checks_last(q), semi, ray, t, f, m),
+                Pair::Refused(_) => missed(),
+            }
+        }
+        Depth::Refused(_) => missed(),
+    }
+}
+
+// Where the ray meets the vertex plane, and no earlier than its origin.
+fn vertex_plane(vertex: f64, ray: Ray) -> f64
+    ensures { λ t. ⌜ t ≡ vertexPlane vertex ray ⌝ }
+{
+    let t = (vertex - ray.origin.z) / ray.direction.z;
+    if t < 0.0 { 0.0 } else { t }
+}
+
+// The pass after `made` passes: the first begins at the vertex plane.
+fn next_pass(
+    q: Profile,
+    a: Coefficients,
+    semi: f64,
+    vertex: f64,
+    ray: Ray,
+    made: u16,
+    t: f64,
+) -> Passed
+    ensures { λ x. ⌜ toldPassed x ≡ nextPass (shapeOf q a semi) vertex ray made t ⌝ }
+{
+    if made != 0 {
+        return pass_at(q, a, semi, vertex, ray, t);
+    }
+    if abs(ray.direction.z) < 1e-15 {
+        return missed();
+    }
+    pass_at(q, a, semi, vertex, ray, vertex_plane(vertex, ray))
+}
+
+// The same, where the last pass that is allowed ends in a miss at worst.
+fn limited_pass(
+    q: Profile,
+    a: Coefficients,
+    semi: f64,
+    vertex: f64,
+    ray: Ray,
+    made: u16,
+    t: f64,
+) -> Passed
+    ensures { λ x. ⌜ toldPassed x ≡ limitedPass (shapeOf q a semi) vertex ray made t ⌝ }
+{
+    let x = next_pass(q, a, semi, vertex, ray, made, t);
+    match x {
+        Passed::Again(_) => {
+            if limit(q) as usize <= made as usize + 1 {
+                missed()
+            } else {
+                x
+            }
+        }
+        Passed::Ended(_) => x,
+    }
+}
+
+// The Rust's intersect_ray of these kinds, with the passes that it took.
+pub fn newton(q: Profile, a: Coefficients, semi: f64, vertex: f64, ray: Ray) -> End
+    ensures { λ e. ⌜ toldEnd e ≡ newtonEnd (shapeOf q a semi) vertex ray ⌝ }
+{
+    let mut t = 0.0;
+    let mut made: u16 = 0;
+    let crossing = loop {
+        match limited_pass(q, a, semi, vertex, ray, made, t) {
+            Passed::Again(u) => {
+                t = u;
+                made += 1;
+            }
+            Passed::Ended(x) => {
+                break x;
+            }
+        }
+    };
+    End {
+        crossing,
+        passes: made + 1,
+    }
+}
+
+fn conic_of(s: Surface, c: f64, k: f64) -> ConicSurface
+    ensures { λ r. ⌜ r ≡ conicOf s c k ⌝ }
+{
+    ConicSurface {
+        vertex: s.vertex,
+        curvature: c,
+        conic: k,
+        semi: s.semi,
+    }
+}
+
+// One pass of a trace over a surface, `made` passes after the first; a conic is met in one.
+pub fn pass(s: Surface, ray: Ray, made: u16, t: f64) -> Passed
+    ensures { λ x. ⌜ toldPassed x ≡ passRule s ray made t ⌝ }
+{
+    let a = s.coefficients;
+    let kind = s.kind;
+    match kind {
+        Kind::Conic(c, k) => Passed::Ended(crossing(ray, conic_of(s, c, k))),
+        Kind::Even(c, k) => limited_pass(Profile::Even(c, k), a, s.semi, s.vertex, ray, made, t),
+        Kind::Biconic(cx, kx, cy, ky) => limited_pass(
+            Profile::Biconic(cx, kx, cy, ky),
+            a,
+            s.semi,
+            s.vertex,
+            ray,
+            made,
+            t,
+        ),
+        Kind::Toroid(rx, cy, ky) => limited_pass(
+            Profile::Toroid(rx, cy, ky),
+            a,
+            s.semi,
+            s.vertex,
+            ray,
+            made,
+            t,
+        ),
+    }
+}
+
+// What lies behind a surface: nothing for a mirror, or a medium; the index before it and the index after.
+pub enum Boundary {
+    Mirror,
+    Media(f64, f64),
+}
+
+// How a ray goes on: the normal where it landed, its new direction, and whether it came from the front.
+pub struct Leaving {
+    pub normal: Vec3,
+    pub direction: Vec3,
+    pub front: bool,
+}
+
+pub enum Turned {
+    To(Leaving),
+    Refused(Refusal),
+}
+
+fn normal(s: Surface, p: Vec3) -> Direction
+    ensures { λ v. ⌜ toldDirection v ≡ surfaceNormal s p ⌝ }
+{
+    let a = s.coefficients;
+    let kind = s.kind;
+    match kind {
+        Kind::Conic(c, k) => normal_at(p, conic_of(s, c, k)),
+        Kind::Even(c, k) => even_normal(c, k, a, p.x, p.y),
+        Kind::Biconic(cx, kx, cy, ky) => biconic_normal(cx, kx, cy, ky, p.x, p.y),
+        Kind::Toroid(rx, cy, ky) => toroid_normal(rx, cy, ky, p.x, p.y),
+    }
+}
+
+fn onward(incident: Vec3, n: Vec3, b: Boundary) -> Direction
+    ensures { λ v. ⌜ toldDirection v ≡ onwardFrom incident n b ⌝ }
+{
+    match b {
+        Boundary::Mirror => raw_reflect(incident, n),
+        Boundary::Media(n1, n2) => raw_refract(incident, n, n1, n2),
+    }
+}
+
+// What a step of a trace does where a ray has landed: the normal, then reflection or refraction.
+pub fn turn(s: Surface, incident: Vec3, p: Vec3, b: Boundary) -> Turned
+    ensures { λ r. ⌜ toldTurned r ≡ turnRule s incident p b ⌝ }
+{
+    match normal(s, p) {
+        Direction::To(n) => match onward(incident, n, b) {
+            Direction::To(v) => Turned::To(Leaving {
+                normal: n,
+                direction: v,
+                front: dot(incident, n) < 0.0,
+            }),
+            Direction::Refused(e) => Turned::Refused(e),
+        },
+        Direction::Refused(e) => Turned::Refused(e),
+    }
+}

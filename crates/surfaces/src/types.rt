@@ -1,0 +1,123 @@
+// Vectors, rays and what a surface is made of, by value. Lengths are in millimetres.
+ghost use mathlib.Core.Path.{_≡_};
+ghost use lib.ListN.{take};
+ghost use Rattle.surfaces.specs.Types.{dotOf, overOf, allFinite, rayFinite, pointAt, distance, everyFinite, coefficientsGood, noCoefficients};
+use numbers::is_finite;
+use numbers::sqrt;
+
+pub struct Vec3 {
+    pub x: f64,
+    pub y: f64,
+    pub z: f64,
+}
+
+pub struct Ray {
+    pub origin: Vec3,
+    pub direction: Vec3,
+}
+
+// Where a ray comes to a surface: so far along the ray, at this point.
+pub struct Landing {
+    pub t: f64,
+    pub point: Vec3,
+}
+
+pub struct HitRecord {
+    pub t: f64,
+    pub point: Vec3,
+    pub normal: Vec3,
+    pub front: bool,
+}
+
+// One number for each meridian: slopes, or curvatures.
+pub struct Meridians {
+    pub x: f64,
+    pub y: f64,
+}
+
+// The first `count` values are the coefficients, and the others are not read.
+pub struct Coefficients {
+    pub count: usize,
+    pub values: [f64; 8],
+}
+
+pub fn dot(a: Vec3, b: Vec3) -> f64
+    ensures { λ r. ⌜ r ≡ dotOf a b ⌝ }
+{
+    a.x * b.x + a.y * b.y + a.z * b.z
+}
+
+pub fn over(a: Vec3, s: f64) -> Vec3
+    ensures { λ r. ⌜ r ≡ overOf a s ⌝ }
+{
+    Vec3 {
+        x: a.x / s,
+        y: a.y / s,
+        z: a.z / s,
+    }
+}
+
+pub fn all_finite(a: Vec3) -> bool
+    ensures { λ r. ⌜ r ≡ allFinite a ⌝ }
+{
+    is_finite(a.x) & is_finite(a.y) & is_finite(a.z)
+}
+
+pub fn ray_finite(ray: Ray) -> bool
+    ensures { λ r. ⌜ r ≡ rayFinite ray ⌝ }
+{
+    let o = ray.origin;
+    let d = ray.direction;
+    all_finite(o) & all_finite(d)
+}
+
+pub fn point_at(ray: Ray, t: f64) -> Vec3
+    ensures { λ r. ⌜ r ≡ pointAt ray t ⌝ }
+{
+    Vec3 {
+        x: ray.origin.x + t * ray.direction.x,
+        y: ray.origin.y + t * ray.direction.y,
+        z: ray.origin.z + t * ray.direction.z,
+    }
+}
+
+// How far (x, y) is from the axis.
+pub fn radius(x: f64, y: f64) -> f64
+    ensures { λ r. ⌜ r ≡ distance x y ⌝ }
+{
+    sqrt(x * x + y * y)
+}
+
+// Whether the first n values, 8 at most, are finite.
+fn first_finite(values: [f64; 8], n: usize) -> bool
+    ensures { λ r. ⌜ r ≡ everyFinite (take n values) ⌝ }
+{
+    let mut i = 0usize;
+    while i < 8usize {
+        if n <= i {
+            return true;
+        }
+        if !is_finite(values[i]) {
+            return false;
+        }
+        i += 1;
+    }
+    true
+}
+
+// At most 8 coefficients, all of them finite.
+pub fn coefficients_good(a: Coefficients) -> bool
+    ensures { λ r. ⌜ r ≡ coefficientsGood a ⌝ }
+{
+    let values = a.values;
+    (a.count <= 8usize) & first_finite(values, a.count)
+}
+
+pub fn no_coefficients() -> Coefficients
+    ensures { λ a. ⌜ a ≡ noCoefficients ⌝ }
+{
+    Coefficients {
+        count: 0usize,
+        values: [0.0; 8],
+    }
+}

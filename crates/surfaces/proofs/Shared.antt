@@ -1,17 +1,17 @@
 -- The slopes of a pass: the root and the other number that the sag had at the same point are those that the slopes' own rule finds. Assumes nothing.
-use Prim.Native.Nat.{ℕ, zero, suc, _*_}
+use Prim.Native.Nat.{_*_}
 use mathlib.Core.Path.{_≡_, refl, sym, ap, _∙_}
 use mathlib.Core.Bool.{Bool, true, false, not, _&&_, _||_, true≢false, false≢true}
 use native.Mathlib.Omega.{arith}
 use lib.Dec.{eqb}
-use borrow.Author.Tests.{ltb-true, le-ltb}
+use borrow.Author.Tests.{le-ltb}
 use lib.Ieee.{Float, nan, inf, fin, neg, up, down, lt, isNan}
 use lib.Ieee.Scale.{finite}
 use Rattle.numbers.specs.Arithmetic.{if_then_else_, decimal, _+₆₄_, _-₆₄_, _*₆₄_, _/₆₄_, _<₆₄_, 0f, 1f, 1e-12}
-use Rattle.numbers.specs.Basic.{larger, negative}
+use Rattle.numbers.specs.Basic.{larger}
 use Rattle.numbers.specs.Sqrt.{root}
 use Rattle.surfaces.specs.Types.{noMeridians, terms}
-use Rattle.surfaces.specs.Told.{Told, Depths, Line, plain, gives, refused, done, after, depths, noDepths}
+use Rattle.surfaces.specs.Told.{Told, plain, gives, refused, done, after, depths, noDepths}
 use Rattle.surfaces.specs.Asphere.{edgeRoot, powerSum, baseRoot, baseSag, evenDepth, evenSlopeFrom, evenSlope, evenSlopes, evenSlopesFrom}
 use Rattle.surfaces.specs.Conic.{signOf}
 use Rattle.surfaces.specs.Biconic.{numeratorOf, biconicRadicand, biconicDepth, biconicSlopesAt, biconicSlopes, biconicSlopesFrom, baseCurveSag, circleDepth, toroidDepth, circleSlopes, toroidSlopes, toroidSlopesFrom, rootAgain}

@@ -1,6 +1,6 @@
 -- Even and odd aspheres. Definitions only.
 use Prim.Native.Nat.{ℕ, suc}
-use mathlib.Core.Bool.{Bool, true, false, not, _&&_, _||_}
+use mathlib.Core.Bool.{Bool, false, not, _&&_, _||_}
 use mathlib.Core.List.{List, [], _∷_}
 use lib.IntN.{pos}
 use lib.Ieee.{Float, binary64, neg, ofInt}
@@ -9,7 +9,7 @@ use Rattle.numbers.specs.Arithmetic.{_+₆₄_, _-₆₄_, _*₆₄_, _/₆₄_
 use Rattle.numbers.specs.Basic.{magnitude, larger}
 use Rattle.numbers.specs.Sqrt.{root}
 use Rattle.surfaces.specs.Types.{vec, zeros, backwards, distance, allFinite, rayFinite, meridians, noMeridians, noLanding, landingFinite, terms, coefficientsGood}
-use Rattle.surfaces.specs.Told.{Told, Depths, plain, gives, refused, after, checked9, noNumber, noPair, noDirection, noCrossing, noEven, noOdd, depths, noDepths, noDepth, sagOf}
+use Rattle.surfaces.specs.Told.{Told, Depths, plain, gives, refused, after, checked9, noNumber, noDirection, noCrossing, noEven, noOdd, depths, noDepths, noDepth, sagOf}
 use Rattle.surfaces.specs.Newton.{Shape, newtonEnd}
 use Rattle.surfaces.specs.declared.types.Vec3.{Vec3}
 use Rattle.surfaces.specs.declared.types.Ray.{Ray}

@@ -1,6 +1,6 @@
 -- Biconic and toroidal surfaces. Definitions only.
-use mathlib.Core.Bool.{Bool, true, false, not, _&&_, _||_}
-use lib.Ieee.{Float, neg}
+use mathlib.Core.Bool.{Bool, true, not, _&&_, _||_}
+use lib.Ieee.{Float}
 use lib.Ieee.Scale.{finite}
 use Rattle.numbers.specs.Arithmetic.{_+₆₄_, _-₆₄_, _*₆₄_, _/₆₄_, _<₆₄_, _≤₆₄_, if_then_else_, 0f, 1f, 2f, 1e-14, 1e-15}
 use Rattle.numbers.specs.Basic.{magnitude, larger}

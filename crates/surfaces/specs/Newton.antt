@@ -1,6 +1,6 @@
 -- Newton's method, over what a kind of surface brings to it. Definitions only.
 use Prim.Native.Nat.{ℕ, zero, suc, _+_}
-use mathlib.Core.Bool.{Bool, true, false, not, _&&_}
+use mathlib.Core.Bool.{Bool, not, _&&_}
 use lib.Dec.{eqb, leb}
 use lib.Ieee.{Float}
 use Rattle.numbers.specs.Arithmetic.{_+₆₄_, _-₆₄_, _*₆₄_, _/₆₄_, _<₆₄_, if_then_else_, 0f, 1½, 1e-11, 1e-12, 1e-15}

@@ -1,10 +1,9 @@
 -- The kinds of surfaces together, for a trace: one pass, what ends a surface, and how a ray goes on. Definitions only.
 use Prim.Native.Nat.{ℕ, zero, suc}
-use mathlib.Core.Bool.{Bool, true, false}
 use lib.Ieee.{Float}
 use Rattle.numbers.specs.Arithmetic.{_<₆₄_, if_then_else_, 0f}
-use Rattle.surfaces.specs.Types.{dotOf, zeros}
-use Rattle.surfaces.specs.Told.{Told, Depths, Ended, gives, after, again, ended, noLeaving}
+use Rattle.surfaces.specs.Types.{dotOf}
+use Rattle.surfaces.specs.Told.{Told, Ended, gives, after, again, ended, noLeaving}
 use Rattle.surfaces.specs.Snell.{reflected, refracted}
 use Rattle.surfaces.specs.Conic.{conicSurface, conicCrossing, normalAt}
 use Rattle.surfaces.specs.Newton.{Shape, newtonEnd, limitedPass, going}

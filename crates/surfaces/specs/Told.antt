@@ -1,7 +1,7 @@
 -- What comes back, in document 01's terms: a line of its table and the answer's values. The rules speak in these terms, and what each answer of the
 -- code tells stands below. Definitions only.
 use Prim.Native.Nat.{ℕ}
-use mathlib.Core.Bool.{Bool, true, false, not, _&&_}
+use mathlib.Core.Bool.{Bool, false, not, _&&_}
 use lib.Dec.{eqb}
 use lib.Ieee.{Float}
 use Rattle.numbers.specs.Arithmetic.{if_then_else_, 0f}

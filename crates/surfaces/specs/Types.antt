@@ -1,5 +1,4 @@
 -- Vectors, rays and coefficients: what document 01 says of them once for all. Definitions only.
-use Prim.Native.Nat.{ℕ}
 use mathlib.Core.Bool.{Bool, true, false, _&&_}
 use mathlib.Core.List.{List, [], _∷_}
 use lib.Dec.{leb}

@@ -1,12 +1,10 @@
 -- What is returned follows from the tests and the calls on the way, in their order. Assumes nothing.
-use lib.Ieee.{ofBits}
-use Rattle.numbers.specs.Arithmetic.{decimal}
 use Rattle.surfaces.specs.Biconic.{biconicNormal}
 use Rattle.surfaces.proofs.biconic.biconic_normal.Statement.{statement}
 use Rattle.surfaces.proofs.biconic.biconic_normal.Tie as tie
 
 pub biconic-normal-spec : {M : Type 1} → statement M
-unfolding biconicNormal decimal ofBits
+unfolding biconicNormal
 biconic-normal-spec =
     tie.close
     (tie.spec

@@ -1,14 +1,12 @@
 -- What is returned follows from the tests and the calls on the way, in their order. Assumes nothing.
 use borrow.Author.Needs.{needs}
 use Rattle.surfaces.proofs.Refusals.{never-done}
-use lib.Ieee.{ofBits}
-use Rattle.numbers.specs.Arithmetic.{decimal}
 use Rattle.surfaces.specs.Biconic.{normalOf}
 use Rattle.surfaces.proofs.biconic.normal_of.Statement.{statement}
 use Rattle.surfaces.proofs.biconic.normal_of.Tie as tie
 
 pub normal-of-spec : {M : Type 1} → statement M
-unfolding normalOf decimal ofBits
+unfolding normalOf
 normal-of-spec =
     tie.close
     (tie.spec

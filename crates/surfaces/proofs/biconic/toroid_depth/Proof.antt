@@ -1,14 +1,12 @@
 -- What is returned follows from the tests and the calls on the way, in their order. Assumes nothing.
 use borrow.Author.Needs.{needs}
 use Rattle.surfaces.proofs.Refusals.{never-done}
-use lib.Ieee.{ofBits}
-use Rattle.numbers.specs.Arithmetic.{decimal}
 use Rattle.surfaces.specs.Biconic.{toroidDepth}
 use Rattle.surfaces.proofs.biconic.toroid_depth.Statement.{statement}
 use Rattle.surfaces.proofs.biconic.toroid_depth.Tie as tie
 
 pub toroid-depth-spec : {M : Type 1} → statement M
-unfolding toroidDepth decimal ofBits
+unfolding toroidDepth
 toroid-depth-spec =
     tie.close
     (tie.spec

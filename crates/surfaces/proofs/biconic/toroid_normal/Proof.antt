@@ -1,12 +1,10 @@
 -- What is returned follows from the tests and the calls on the way, in their order. Assumes nothing.
-use lib.Ieee.{ofBits}
-use Rattle.numbers.specs.Arithmetic.{decimal}
 use Rattle.surfaces.specs.Biconic.{toroidNormal}
 use Rattle.surfaces.proofs.biconic.toroid_normal.Statement.{statement}
 use Rattle.surfaces.proofs.biconic.toroid_normal.Tie as tie
 
 pub toroid-normal-spec : {M : Type 1} → statement M
-unfolding toroidNormal decimal ofBits
+unfolding toroidNormal
 toroid-normal-spec =
     tie.close
     (tie.spec

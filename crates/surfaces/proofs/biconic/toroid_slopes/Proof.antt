@@ -1,14 +1,12 @@
 -- What is returned follows from the tests and the calls on the way, in their order. Assumes nothing.
 use borrow.Author.Needs.{needs}
 use Rattle.surfaces.proofs.Refusals.{never-done}
-use lib.Ieee.{ofBits}
-use Rattle.numbers.specs.Arithmetic.{decimal}
 use Rattle.surfaces.specs.Biconic.{toroidSlopes}
 use Rattle.surfaces.proofs.biconic.toroid_slopes.Statement.{statement}
 use Rattle.surfaces.proofs.biconic.toroid_slopes.Tie as tie
 
 pub toroid-slopes-spec : {M : Type 1} → statement M
-unfolding toroidSlopes decimal ofBits
+unfolding toroidSlopes
 toroid-slopes-spec =
     tie.close
     (tie.spec

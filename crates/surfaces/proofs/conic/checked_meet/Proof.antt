@@ -1,14 +1,12 @@
 -- What is returned follows from the tests and the calls on the way, in their order. Assumes nothing.
 use borrow.Author.Needs.{needs}
 use Rattle.surfaces.proofs.Refusals.{never-done}
-use lib.Ieee.{ofBits}
-use Rattle.numbers.specs.Arithmetic.{decimal}
 use Rattle.surfaces.specs.Types.{hitFinite}
 use Rattle.surfaces.proofs.conic.checked_meet.Statement.{statement}
 use Rattle.surfaces.proofs.conic.checked_meet.Tie as tie
 
 pub checked-meet-spec : {M : Type 1} → statement M
-unfolding hitFinite decimal ofBits
+unfolding hitFinite
 checked-meet-spec =
     tie.close
     (tie.spec

@@ -1,12 +1,10 @@
 -- What is returned follows from the tests and the calls on the way, in their order. Assumes nothing.
-use lib.Ieee.{ofBits}
-use Rattle.numbers.specs.Arithmetic.{decimal}
 use Rattle.surfaces.specs.Conic.{conicFinite}
 use Rattle.surfaces.proofs.conic.conic_finite.Statement.{statement}
 use Rattle.surfaces.proofs.conic.conic_finite.Tie as tie
 
 pub conic-finite-spec : {M : Type 1} → statement M
-unfolding conicFinite decimal ofBits
+unfolding conicFinite
 conic-finite-spec =
     tie.close
     (tie.spec

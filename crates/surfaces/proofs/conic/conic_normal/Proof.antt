@@ -1,12 +1,10 @@
 -- What is returned follows from the tests and the calls on the way, in their order. Assumes nothing.
-use lib.Ieee.{ofBits}
-use Rattle.numbers.specs.Arithmetic.{decimal}
 use Rattle.surfaces.specs.Conic.{conicNormalAnswer}
 use Rattle.surfaces.proofs.conic.conic_normal.Statement.{statement}
 use Rattle.surfaces.proofs.conic.conic_normal.Tie as tie
 
 pub conic-normal-spec : {M : Type 1} → statement M
-unfolding conicNormalAnswer decimal ofBits
+unfolding conicNormalAnswer
 conic-normal-spec =
     tie.close
     (tie.spec

@@ -1,12 +1,10 @@
 -- What is returned follows from the tests and the calls on the way, in their order. Assumes nothing.
-use lib.Ieee.{ofBits}
-use Rattle.numbers.specs.Arithmetic.{decimal}
 use Rattle.surfaces.specs.Conic.{firstOn}
 use Rattle.surfaces.proofs.conic.cross_one.Statement.{statement}
 use Rattle.surfaces.proofs.conic.cross_one.Tie as tie
 
 pub cross-one-spec : {M : Type 1} → statement M
-unfolding firstOn decimal ofBits
+unfolding firstOn
 cross-one-spec =
     tie.close
     (tie.spec

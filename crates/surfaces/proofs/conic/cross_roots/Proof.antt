@@ -1,13 +1,11 @@
 -- What is returned follows from the tests and the calls on the way, in their order. Assumes nothing.
 use borrow.Author.Needs.{needs}
-use lib.Ieee.{ofBits}
-use Rattle.numbers.specs.Arithmetic.{decimal}
 use Rattle.surfaces.specs.Conic.{firstOn, ascending}
 use Rattle.surfaces.proofs.conic.cross_roots.Statement.{statement}
 use Rattle.surfaces.proofs.conic.cross_roots.Tie as tie
 
 pub cross-roots-spec : {M : Type 1} → statement M
-unfolding firstOn ascending decimal ofBits
+unfolding firstOn ascending
 cross-roots-spec =
     tie.close
     (tie.spec

@@ -1,12 +1,10 @@
 -- What is returned follows from the tests and the calls on the way, in their order. Assumes nothing.
-use lib.Ieee.{ofBits}
-use Rattle.numbers.specs.Arithmetic.{decimal}
 use Rattle.surfaces.specs.Conic.{firstOn}
 use Rattle.surfaces.proofs.conic.cross_two.Statement.{statement}
 use Rattle.surfaces.proofs.conic.cross_two.Tie as tie
 
 pub cross-two-spec : {M : Type 1} → statement M
-unfolding firstOn decimal ofBits
+unfolding firstOn
 cross-two-spec =
     tie.close
     (tie.spec

@@ -1,12 +1,10 @@
 -- What is returned follows from the tests and the calls on the way, in their order. Assumes nothing.
-use lib.Ieee.{ofBits}
-use Rattle.numbers.specs.Arithmetic.{decimal}
 use Rattle.surfaces.specs.Conic.{landedWithin}
 use Rattle.surfaces.proofs.conic.landed_within.Statement.{statement}
 use Rattle.surfaces.proofs.conic.landed_within.Tie as tie
 
 pub landed-within-spec : {M : Type 1} → statement M
-unfolding landedWithin decimal ofBits
+unfolding landedWithin
 landed-within-spec =
     tie.close
     (tie.spec

@@ -1,14 +1,12 @@
 -- What is returned follows from the tests and the calls on the way, in their order. Assumes nothing.
 use borrow.Author.Needs.{needs}
 use Rattle.surfaces.proofs.Refusals.{never-done}
-use lib.Ieee.{ofBits}
-use Rattle.numbers.specs.Arithmetic.{decimal}
 use Rattle.surfaces.specs.Conic.{meetRule}
 use Rattle.surfaces.proofs.conic.raw_meet.Statement.{statement}
 use Rattle.surfaces.proofs.conic.raw_meet.Tie as tie
 
 pub raw-meet-spec : {M : Type 1} → statement M
-unfolding meetRule decimal ofBits
+unfolding meetRule
 raw-meet-spec =
     tie.close
     (tie.spec

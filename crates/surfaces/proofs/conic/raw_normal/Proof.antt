@@ -1,12 +1,10 @@
 -- What is returned follows from the tests and the calls on the way, in their order. Assumes nothing.
-use lib.Ieee.{ofBits}
-use Rattle.numbers.specs.Arithmetic.{decimal}
 use Rattle.surfaces.specs.Conic.{conicNormal}
 use Rattle.surfaces.proofs.conic.raw_normal.Statement.{statement}
 use Rattle.surfaces.proofs.conic.raw_normal.Tie as tie
 
 pub raw-normal-spec : {M : Type 1} → statement M
-unfolding conicNormal decimal ofBits
+unfolding conicNormal
 raw-normal-spec =
     tie.close
     (tie.spec

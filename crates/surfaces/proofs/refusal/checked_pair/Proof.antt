@@ -1,14 +1,12 @@
 -- What is returned follows from the tests and the calls on the way, in their order. Assumes nothing.
 use borrow.Author.Needs.{needs}
 use Rattle.surfaces.proofs.Refusals.{never-done}
-use lib.Ieee.{ofBits}
-use Rattle.numbers.specs.Arithmetic.{decimal}
 use Rattle.surfaces.specs.Types.{bothFinite}
 use Rattle.surfaces.proofs.refusal.checked_pair.Statement.{statement}
 use Rattle.surfaces.proofs.refusal.checked_pair.Tie as tie
 
 pub checked-pair-spec : {M : Type 1} → statement M
-unfolding bothFinite decimal ofBits
+unfolding bothFinite
 checked-pair-spec =
     tie.close
     (tie.spec

@@ -1,12 +1,10 @@
 -- What is returned follows from the tests and the calls on the way, in their order. Assumes nothing.
-use lib.Ieee.{ofBits}
-use Rattle.numbers.specs.Arithmetic.{decimal}
 use Rattle.surfaces.specs.Snell.{negatedIf}
 use Rattle.surfaces.proofs.snell.negated_if.Statement.{statement}
 use Rattle.surfaces.proofs.snell.negated_if.Tie as tie
 
 pub negated-if-spec : {M : Type 1} → statement M
-unfolding negatedIf decimal ofBits
+unfolding negatedIf
 negated-if-spec =
     tie.close
     (tie.spec

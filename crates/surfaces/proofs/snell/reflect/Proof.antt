@@ -1,13 +1,10 @@
 -- What is returned follows from the tests and the calls on the way, in their order. Assumes nothing.
-use mathlib.Core.Path.{refl}
-use lib.Ieee.{ofBits}
-use Rattle.numbers.specs.Arithmetic.{decimal}
 use Rattle.surfaces.specs.Snell.{reflectAnswer}
 use Rattle.surfaces.proofs.snell.reflect.Statement.{statement}
 use Rattle.surfaces.proofs.snell.reflect.Tie as tie
 
 pub reflect-spec : {M : Type 1} → statement M
-unfolding reflectAnswer decimal ofBits
+unfolding reflectAnswer
 reflect-spec =
     tie.close
     (tie.spec

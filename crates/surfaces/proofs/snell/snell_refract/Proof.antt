@@ -1,12 +1,10 @@
 -- What is returned follows from the tests and the calls on the way, in their order. Assumes nothing.
-use lib.Ieee.{ofBits}
-use Rattle.numbers.specs.Arithmetic.{decimal}
 use Rattle.surfaces.specs.Snell.{refractAnswer}
 use Rattle.surfaces.proofs.snell.snell_refract.Statement.{statement}
 use Rattle.surfaces.proofs.snell.snell_refract.Tie as tie
 
 pub snell-refract-spec : {M : Type 1} → statement M
-unfolding refractAnswer decimal ofBits
+unfolding refractAnswer
 snell-refract-spec =
     tie.close
     (tie.spec

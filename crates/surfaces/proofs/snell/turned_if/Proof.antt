@@ -1,12 +1,10 @@
 -- What is returned follows from the tests and the calls on the way, in their order. Assumes nothing.
-use lib.Ieee.{ofBits}
-use Rattle.numbers.specs.Arithmetic.{decimal}
 use Rattle.surfaces.specs.Snell.{turnedIf}
 use Rattle.surfaces.proofs.snell.turned_if.Statement.{statement}
 use Rattle.surfaces.proofs.snell.turned_if.Tie as tie
 
 pub turned-if-spec : {M : Type 1} → statement M
-unfolding turnedIf decimal ofBits
+unfolding turnedIf
 turned-if-spec =
     tie.close
     (tie.spec

@@ -1,12 +1,10 @@
 -- What is returned follows from the tests and the calls on the way, in their order. Assumes nothing.
-use lib.Ieee.{ofBits}
-use Rattle.numbers.specs.Arithmetic.{decimal}
 use Rattle.surfaces.specs.Newton.{arrivedAt}
 use Rattle.surfaces.proofs.surface.arrived.Statement.{statement}
 use Rattle.surfaces.proofs.surface.arrived.Tie as tie
 
 pub arrived-spec : {M : Type 1} → statement M
-unfolding arrivedAt decimal ofBits
+unfolding arrivedAt
 arrived-spec =
     tie.close
     (tie.spec

@@ -1,12 +1,9 @@
 -- What is returned follows from the tests and the calls on the way, in their order. Assumes nothing.
 use borrow.Author.Needs.{needs}
-use lib.Ieee.{ofBits}
-use Rattle.numbers.specs.Arithmetic.{decimal}
 use Rattle.surfaces.proofs.surface.depth.Statement.{statement}
 use Rattle.surfaces.proofs.surface.depth.Tie as tie
 
 pub depth-spec : {M : Type 1} → statement M
-unfolding decimal ofBits
 depth-spec =
     tie.close
     (tie.spec

@@ -1,7 +1,6 @@
 -- What is returned follows from the tests and the calls on the way, in their order. Assumes nothing.
 use borrow.Author.Needs.{needs}
-use lib.Ieee.{ofBits}
-use Rattle.numbers.specs.Arithmetic.{decimal, 0f}
+use Rattle.numbers.specs.Arithmetic.{0f}
 use Rattle.surfaces.specs.Types.{noCoefficients}
 use Rattle.surfaces.proofs.Refusals.{has-ended}
 use Rattle.surfaces.proofs.Shared.{kind-alone}
@@ -11,7 +10,7 @@ use Rattle.surfaces.proofs.surface.limited_pass.Statement.{statement}
 use Rattle.surfaces.proofs.surface.limited_pass.Tie as tie
 
 pub limited-pass-spec : {M : Type 1} → statement M
-unfolding limitedPass decimal ofBits
+unfolding limitedPass
 limited-pass-spec =
     tie.close
     (tie.spec

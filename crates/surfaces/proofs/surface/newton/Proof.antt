@@ -1,12 +1,12 @@
 -- What is to come from here is what was to come from the start. Assumes nothing.
-use Prim.Native.Nat.{ℕ, suc, _-_, _<_, _≤_}
+use Prim.Native.Nat.{suc, _-_, _<_, _≤_}
 use mathlib.Core.Path.{_≡_, refl, sym, ap, _∙_}
 use native.Mathlib.Omega.{arith}
 use native.Mathlib.Numerals.{add-one}
 use borrow.Author.Needs.{needs}
 use lib.Ieee.{Float}
 use Rattle.surfaces.specs.Told.{toldPassed}
-use Rattle.surfaces.specs.Newton.{going, newtonEnd, limitedPass}
+use Rattle.surfaces.specs.Newton.{going, newtonEnd}
 use Rattle.surfaces.specs.Surface.{shapeOf}
 use Rattle.surfaces.specs.declared.types.Coefficients.{Coefficients}
 use Rattle.surfaces.specs.declared.surface.Profile.{Profile}

@@ -1,13 +1,11 @@
 -- What is returned follows from the tests and the calls on the way, in their order. Assumes nothing.
 use borrow.Author.Needs.{needs}
-use lib.Ieee.{ofBits}
-use Rattle.numbers.specs.Arithmetic.{decimal}
 use Rattle.surfaces.specs.Surface.{surfaceNormal}
 use Rattle.surfaces.proofs.surface.normal.Statement.{statement}
 use Rattle.surfaces.proofs.surface.normal.Tie as tie
 
 pub normal-spec : {M : Type 1} → statement M
-unfolding surfaceNormal decimal ofBits
+unfolding surfaceNormal
 normal-spec =
     tie.close
     (tie.spec

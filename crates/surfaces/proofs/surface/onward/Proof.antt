@@ -1,14 +1,11 @@
 -- What is returned follows from the tests and the calls on the way, in their order. Assumes nothing.
 use borrow.Author.Needs.{needs}
-use mathlib.Core.Path.{refl}
-use lib.Ieee.{ofBits}
-use Rattle.numbers.specs.Arithmetic.{decimal}
 use Rattle.surfaces.specs.Surface.{onwardFrom}
 use Rattle.surfaces.proofs.surface.onward.Statement.{statement}
 use Rattle.surfaces.proofs.surface.onward.Tie as tie
 
 pub onward-spec : {M : Type 1} → statement M
-unfolding onwardFrom decimal ofBits
+unfolding onwardFrom
 onward-spec =
     tie.close
     (tie.spec

@@ -1,13 +1,11 @@
 -- What is returned follows from the tests and the calls on the way, in their order. Assumes nothing.
 use borrow.Author.Needs.{needs}
-use lib.Ieee.{ofBits}
-use Rattle.numbers.specs.Arithmetic.{decimal}
 use Rattle.surfaces.specs.Surface.{passRule}
 use Rattle.surfaces.proofs.surface.pass.Statement.{statement}
 use Rattle.surfaces.proofs.surface.pass.Tie as tie
 
 pub pass-spec : {M : Type 1} → statement M
-unfolding passRule decimal ofBits
+unfolding passRule
 pass-spec =
     tie.close
     (tie.spec

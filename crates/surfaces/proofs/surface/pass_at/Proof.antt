@@ -6,7 +6,7 @@ use Rattle.numbers.specs.Arithmetic.{decimal, 0f}
 use Rattle.surfaces.specs.Types.{noCoefficients}
 use Rattle.surfaces.specs.Told.{toldDepth, toldPair}
 use Rattle.surfaces.specs.Newton.{passAt}
-use Rattle.surfaces.specs.Surface.{shapeOf, slopesFrom}
+use Rattle.surfaces.specs.Surface.{shapeOf}
 use Rattle.surfaces.proofs.Refusals.{never-done}
 use Rattle.surfaces.proofs.Shared.{shared, semi-of, kind-alone}
 use Rattle.surfaces.proofs.surface.pass_at.Statement.{statement}

@@ -1,12 +1,10 @@
 -- What is returned follows from the tests and the calls on the way, in their order. Assumes nothing.
-use lib.Ieee.{ofBits}
-use Rattle.numbers.specs.Arithmetic.{decimal}
 use Rattle.surfaces.specs.Types.{allFinite}
 use Rattle.surfaces.proofs.types.all_finite.Statement.{statement}
 use Rattle.surfaces.proofs.types.all_finite.Tie as tie
 
 pub all-finite-spec : {M : Type 1} → statement M
-unfolding allFinite decimal ofBits
+unfolding allFinite
 all-finite-spec =
     tie.close
     (tie.spec

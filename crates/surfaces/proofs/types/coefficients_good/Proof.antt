@@ -1,12 +1,10 @@
 -- What is returned follows from the tests and the calls on the way, in their order. Assumes nothing.
-use lib.Ieee.{ofBits}
-use Rattle.numbers.specs.Arithmetic.{decimal}
 use Rattle.surfaces.specs.Types.{coefficientsGood}
 use Rattle.surfaces.proofs.types.coefficients_good.Statement.{statement}
 use Rattle.surfaces.proofs.types.coefficients_good.Tie as tie
 
 pub coefficients-good-spec : {M : Type 1} → statement M
-unfolding coefficientsGood decimal ofBits
+unfolding coefficientsGood
 coefficients-good-spec =
     tie.close
     (tie.spec

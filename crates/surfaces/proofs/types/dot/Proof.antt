@@ -1,13 +1,11 @@
 -- What is returned follows from the tests and the calls on the way, in their order. Assumes nothing.
 use mathlib.Core.Path.{refl}
-use lib.Ieee.{ofBits}
-use Rattle.numbers.specs.Arithmetic.{decimal}
 use Rattle.surfaces.specs.Types.{dotOf}
 use Rattle.surfaces.proofs.types.dot.Statement.{statement}
 use Rattle.surfaces.proofs.types.dot.Tie as tie
 
 pub dot-spec : {M : Type 1} → statement M
-unfolding dotOf decimal ofBits
+unfolding dotOf
 dot-spec =
     tie.close
     (tie.spec

@@ -1,12 +1,10 @@
 -- What is returned follows from the tests and the calls on the way, in their order. Assumes nothing.
-use lib.Ieee.{ofBits}
-use Rattle.numbers.specs.Arithmetic.{decimal}
 use Rattle.surfaces.specs.Types.{rayFinite}
 use Rattle.surfaces.proofs.types.ray_finite.Statement.{statement}
 use Rattle.surfaces.proofs.types.ray_finite.Tie as tie
 
 pub ray-finite-spec : {M : Type 1} → statement M
-unfolding rayFinite decimal ofBits
+unfolding rayFinite
 ray-finite-spec =
     tie.close
     (tie.spec

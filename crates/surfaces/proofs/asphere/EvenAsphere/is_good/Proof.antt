@@ -1,12 +1,10 @@
 -- What is returned follows from the tests and the calls on the way, in their order. Assumes nothing.
-use lib.Ieee.{ofBits}
-use Rattle.numbers.specs.Arithmetic.{decimal}
 use Rattle.surfaces.specs.Asphere.{evenGood}
 use Rattle.surfaces.proofs.asphere.EvenAsphere.is_good.Statement.{statement}
 use Rattle.surfaces.proofs.asphere.EvenAsphere.is_good.Tie as tie
 
 pub is-good-spec : {M : Type 1} → statement M
-unfolding evenGood decimal ofBits
+unfolding evenGood
 is-good-spec =
     tie.close
     (tie.spec

@@ -1,12 +1,10 @@
 -- What is returned follows from the tests and the calls on the way, in their order. Assumes nothing.
-use lib.Ieee.{ofBits}
-use Rattle.numbers.specs.Arithmetic.{decimal}
 use Rattle.surfaces.specs.Asphere.{evenSlopeAnswer}
 use Rattle.surfaces.proofs.asphere.EvenAsphere.radial_derivative.Statement.{statement}
 use Rattle.surfaces.proofs.asphere.EvenAsphere.radial_derivative.Tie as tie
 
 pub radial-derivative-spec : {M : Type 1} → statement M
-unfolding evenSlopeAnswer decimal ofBits
+unfolding evenSlopeAnswer
 radial-derivative-spec =
     tie.close
     (tie.spec

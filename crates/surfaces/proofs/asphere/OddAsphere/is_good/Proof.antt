@@ -1,12 +1,10 @@
 -- What is returned follows from the tests and the calls on the way, in their order. Assumes nothing.
-use lib.Ieee.{ofBits}
-use Rattle.numbers.specs.Arithmetic.{decimal}
 use Rattle.surfaces.specs.Asphere.{oddGood}
 use Rattle.surfaces.proofs.asphere.OddAsphere.is_good.Statement.{statement}
 use Rattle.surfaces.proofs.asphere.OddAsphere.is_good.Tie as tie
 
 pub is-good-spec : {M : Type 1} → statement M
-unfolding oddGood decimal ofBits
+unfolding oddGood
 is-good-spec =
     tie.close
     (tie.spec

@@ -1,12 +1,10 @@
 -- What is returned follows from the tests and the calls on the way, in their order. Assumes nothing.
-use lib.Ieee.{ofBits}
-use Rattle.numbers.specs.Arithmetic.{decimal}
 use Rattle.surfaces.specs.Asphere.{oddSagAnswer}
 use Rattle.surfaces.proofs.asphere.OddAsphere.sag.Statement.{statement}
 use Rattle.surfaces.proofs.asphere.OddAsphere.sag.Tie as tie
 
 pub sag-spec : {M : Type 1} → statement M
-unfolding oddSagAnswer decimal ofBits
+unfolding oddSagAnswer
 sag-spec =
     tie.close
     (tie.spec

@@ -1,12 +1,10 @@
 -- What is returned follows from the tests and the calls on the way, in their order. Assumes nothing.
-use lib.Ieee.{ofBits}
-use Rattle.numbers.specs.Arithmetic.{decimal}
 use Rattle.surfaces.specs.Biconic.{biconicSlopesAnswer}
 use Rattle.surfaces.proofs.biconic.BiconicSurface.derivatives.Statement.{statement}
 use Rattle.surfaces.proofs.biconic.BiconicSurface.derivatives.Tie as tie
 
 pub derivatives-spec : {M : Type 1} → statement M
-unfolding biconicSlopesAnswer decimal ofBits
+unfolding biconicSlopesAnswer
 derivatives-spec =
     tie.close
     (tie.spec

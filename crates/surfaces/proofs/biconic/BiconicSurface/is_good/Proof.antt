@@ -1,12 +1,10 @@
 -- What is returned follows from the tests and the calls on the way, in their order. Assumes nothing.
-use lib.Ieee.{ofBits}
-use Rattle.numbers.specs.Arithmetic.{decimal}
 use Rattle.surfaces.specs.Biconic.{biconicGood}
 use Rattle.surfaces.proofs.biconic.BiconicSurface.is_good.Statement.{statement}
 use Rattle.surfaces.proofs.biconic.BiconicSurface.is_good.Tie as tie
 
 pub is-good-spec : {M : Type 1} → statement M
-unfolding biconicGood decimal ofBits
+unfolding biconicGood
 is-good-spec =
     tie.close
     (tie.spec

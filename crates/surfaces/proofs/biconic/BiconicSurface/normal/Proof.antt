@@ -1,12 +1,10 @@
 -- What is returned follows from the tests and the calls on the way, in their order. Assumes nothing.
-use lib.Ieee.{ofBits}
-use Rattle.numbers.specs.Arithmetic.{decimal}
 use Rattle.surfaces.specs.Biconic.{biconicNormalAnswer}
 use Rattle.surfaces.proofs.biconic.BiconicSurface.normal.Statement.{statement}
 use Rattle.surfaces.proofs.biconic.BiconicSurface.normal.Tie as tie
 
 pub normal-spec : {M : Type 1} → statement M
-unfolding biconicNormalAnswer decimal ofBits
+unfolding biconicNormalAnswer
 normal-spec =
     tie.close
     (tie.spec

@@ -1,12 +1,10 @@
 -- What is returned follows from the tests and the calls on the way, in their order. Assumes nothing.
-use lib.Ieee.{ofBits}
-use Rattle.numbers.specs.Arithmetic.{decimal}
 use Rattle.surfaces.specs.Biconic.{biconicSagAnswer}
 use Rattle.surfaces.proofs.biconic.BiconicSurface.sag.Statement.{statement}
 use Rattle.surfaces.proofs.biconic.BiconicSurface.sag.Tie as tie
 
 pub sag-spec : {M : Type 1} → statement M
-unfolding biconicSagAnswer decimal ofBits
+unfolding biconicSagAnswer
 sag-spec =
     tie.close
     (tie.spec

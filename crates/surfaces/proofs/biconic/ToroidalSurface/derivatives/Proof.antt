@@ -1,12 +1,10 @@
 -- What is returned follows from the tests and the calls on the way, in their order. Assumes nothing.
-use lib.Ieee.{ofBits}
-use Rattle.numbers.specs.Arithmetic.{decimal}
 use Rattle.surfaces.specs.Biconic.{toroidSlopesAnswer}
 use Rattle.surfaces.proofs.biconic.ToroidalSurface.derivatives.Statement.{statement}
 use Rattle.surfaces.proofs.biconic.ToroidalSurface.derivatives.Tie as tie
 
 pub derivatives-spec : {M : Type 1} → statement M
-unfolding toroidSlopesAnswer decimal ofBits
+unfolding toroidSlopesAnswer
 derivatives-spec =
     tie.close
     (tie.spec

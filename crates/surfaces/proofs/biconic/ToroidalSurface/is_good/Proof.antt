@@ -1,12 +1,10 @@
 -- What is returned follows from the tests and the calls on the way, in their order. Assumes nothing.
-use lib.Ieee.{ofBits}
-use Rattle.numbers.specs.Arithmetic.{decimal}
 use Rattle.surfaces.specs.Biconic.{toroidGood}
 use Rattle.surfaces.proofs.biconic.ToroidalSurface.is_good.Statement.{statement}
 use Rattle.surfaces.proofs.biconic.ToroidalSurface.is_good.Tie as tie
 
 pub is-good-spec : {M : Type 1} → statement M
-unfolding toroidGood decimal ofBits
+unfolding toroidGood
 is-good-spec =
     tie.close
     (tie.spec

@@ -1,12 +1,10 @@
 -- What is returned follows from the tests and the calls on the way, in their order. Assumes nothing.
-use lib.Ieee.{ofBits}
-use Rattle.numbers.specs.Arithmetic.{decimal}
 use Rattle.surfaces.specs.Biconic.{toroidNormalAnswer}
 use Rattle.surfaces.proofs.biconic.ToroidalSurface.normal.Statement.{statement}
 use Rattle.surfaces.proofs.biconic.ToroidalSurface.normal.Tie as tie
 
 pub normal-spec : {M : Type 1} → statement M
-unfolding toroidNormalAnswer decimal ofBits
+unfolding toroidNormalAnswer
 normal-spec =
     tie.close
     (tie.spec

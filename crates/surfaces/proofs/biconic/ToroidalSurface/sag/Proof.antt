@@ -1,12 +1,10 @@
 -- What is returned follows from the tests and the calls on the way, in their order. Assumes nothing.
-use lib.Ieee.{ofBits}
-use Rattle.numbers.specs.Arithmetic.{decimal}
 use Rattle.surfaces.specs.Biconic.{toroidSagAnswer}
 use Rattle.surfaces.proofs.biconic.ToroidalSurface.sag.Statement.{statement}
 use Rattle.surfaces.proofs.biconic.ToroidalSurface.sag.Tie as tie
 
 pub sag-spec : {M : Type 1} → statement M
-unfolding toroidSagAnswer decimal ofBits
+unfolding toroidSagAnswer
 sag-spec =
     tie.close
     (tie.spec

@@ -1,13 +1,11 @@
 -- What is returned follows from the tests and the calls on the way, in their order. Assumes nothing.
 use mathlib.Core.Path.{refl}
-use lib.Ieee.{ofBits}
-use Rattle.numbers.specs.Arithmetic.{decimal}
 use Rattle.surfaces.specs.Conic.{withVertex}
 use Rattle.surfaces.proofs.conic.ConicSurface.with_vertex_z.Statement.{statement}
 use Rattle.surfaces.proofs.conic.ConicSurface.with_vertex_z.Tie as tie
 
 pub with-vertex-z-spec : {M : Type 1} → statement M
-unfolding withVertex decimal ofBits
+unfolding withVertex
 with-vertex-z-spec =
     tie.close
     (tie.spec

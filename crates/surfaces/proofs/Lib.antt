@@ -3,3 +3,5 @@ pub mod Refusals
 pub mod Terms
 pub mod Shared
 pub mod Passes
+pub mod Unique
+pub mod Chains

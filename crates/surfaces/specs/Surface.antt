@@ -1,5 +1,7 @@
 -- The kinds of surfaces together, for a trace: one pass, what ends a surface, and how a ray goes on. Definitions only.
-use Prim.Native.Nat.{ℕ, zero, suc}
+use Prim.Native.Nat.{ℕ, zero, suc, _≤_}
+use mathlib.Core.Path.{_≡_}
+use mathlib.Core.Bool.{false}
 use lib.Ieee.{Float}
 use Rattle.numbers.specs.Arithmetic.{_<₆₄_, if_then_else_, 0f}
 use Rattle.surfaces.specs.Types.{dotOf}
@@ -72,6 +74,12 @@ chain s ray zero made t = ended (again t) made
 chain s ray (suc n) made t =
     let x = passRule s ray made t in
     if going x then chain s ray n (suc made) (x .value .t) else ended x (suc made)
+
+-- a chain of passes ends as the kind's own rule says, within the kind's limit
+pub record ChainEnds (s : Surface) (ray : Ray) (t : Float) : Type 0 where
+  pub same : chain s ray (limitBy (s .kind)) 0 t ≡ surfaceEnd s ray
+  pub ends : going (surfaceEnd s ray .answer) ≡ false
+  pub within : surfaceEnd s ray .passes ≤ limitBy (s .kind)
 
 abbrev pub normalBy : Kind → Surface → Vec3 → Told Vec3
 normalBy (Conic c k) s p = normalAt p (conicOf s c k)

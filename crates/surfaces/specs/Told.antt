@@ -2,6 +2,7 @@
 -- code tells stands below. Definitions only.
 use Prim.Native.Nat.{ℕ}
 use mathlib.Core.Bool.{Bool, false, not, _&&_}
+use mathlib.Core.Path.{_≡_}
 use lib.Dec.{eqb}
 use lib.Ieee.{Float}
 use Rattle.numbers.specs.Arithmetic.{if_then_else_, 0f}
@@ -216,3 +217,22 @@ noLeaving = record { normal = zeros; direction = zeros; front = false }
 abbrev pub toldTurned : Turned → Told Leaving
 toldTurned (turned.To t) = gives t
 toldTurned (turned.Refused e) = refused noLeaving (lineOf e)
+
+-- An answer is known by what it tells: of two answers that a promise allows, each is the other.
+abbrev pub OneToOne : {E T : Type 0} → (E → T) → Type 0
+OneToOne {E} told = (x y : E) → told x ≡ told y → x ≡ y
+
+pub record ToldOneToOne : Type 0 where
+  pub number : OneToOne toldNumber
+  pub sag : OneToOne toldSag
+  pub pair : OneToOne toldPair
+  pub direction : OneToOne toldDirection
+  pub crossing : OneToOne toldCrossing
+  pub meet : OneToOne toldMeet
+  pub conic : OneToOne toldConic
+  pub even : OneToOne toldEven
+  pub odd : OneToOne toldOdd
+  pub biconic : OneToOne toldBiconic
+  pub toroid : OneToOne toldToroid
+  pub passed : OneToOne toldPassed
+  pub turned : OneToOne toldTurned

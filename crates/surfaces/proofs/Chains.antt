@@ -1,0 +1,113 @@
+-- A chain of passes ends as the kind's own rule says. Assumes nothing.
+use Prim.Native.Nat.{ℕ, zero, suc, _+_, _<_, _≤_}
+use mathlib.Core.Path.{_≡_, refl, sym, _∙_}
+use mathlib.Core.Bool.{Bool, true, false}
+use mathlib.Core.List.{List, [], _∷_}
+use native.Mathlib.Omega.{arith}
+use lib.Ieee.{Float, neg}
+use Rattle.numbers.specs.Arithmetic.{if_then_else_, _-₆₄_, _*₆₄_, _/₆₄_, _<₆₄_, 0f, 4f, 1e-7, 1e-15}
+use Rattle.numbers.specs.Basic.{magnitude}
+use Rattle.surfaces.specs.Types.{pointAt, distance}
+use Rattle.surfaces.specs.Told.{Told, Ended, ended, noCrossing}
+use Rattle.surfaces.specs.Conic.{landedWithin, planeCrossing, onSheet, firstOn, quadraticOf, curvedCrossing, conicCrossing}
+use Rattle.surfaces.specs.Newton.{Shape, going, passAt, vertexPlane, passesFrom, newtonEnd, limitedPass}
+use Rattle.surfaces.specs.Asphere.{evenShape}
+use Rattle.surfaces.specs.Biconic.{biconicShape, toroidShape}
+use Rattle.surfaces.specs.Surface.{conicOf, passRule, surfaceEnd, limitBy, chain, ChainEnds}
+use Rattle.surfaces.specs.declared.types.Vec3.{Vec3}
+use Rattle.surfaces.specs.declared.types.Ray.{Ray}
+use Rattle.surfaces.specs.declared.types.Landing.{Landing}
+use Rattle.surfaces.specs.declared.conic.ConicSurface.{ConicSurface}
+use Rattle.surfaces.specs.declared.surface.Kind.{Kind}
+use Rattle.surfaces.specs.declared.surface.Kind.the-variants.{Conic, Even, Biconic, Toroid}
+use Rattle.surfaces.specs.declared.surface.Surface.{Surface}
+use Rattle.surfaces.proofs.Passes.{onFrom, next, step, more}
+
+-- of two that have ended, either has
+either : (b : Bool) (x y : Told Landing) → going x ≡ false → going y ≡ false → going (if b then x else y) ≡ false
+either true x y e f = e
+either false x y e f = f
+
+landed : (t : Float) (p : Vec3) (r semi : Float) → going (landedWithin t p r semi) ≡ false
+unfolding landedWithin
+landed t p r semi = either (semi <₆₄ r) _ _ refl refl
+
+module _ (ray : Ray) (s : ConicSurface) where
+  first : (l : List Float) → going (firstOn ray s l) ≡ false
+  unfolding firstOn
+  first [] = refl
+  first (t ∷ l) =
+      let p = pointAt ray t in
+      let r = distance (p .x) (p .y) in
+      either (onSheet s p r) (landedWithin t p r (s .semi)) (firstOn ray s l) (landed t p r (s .semi)) (first l)
+
+  plane : going (planeCrossing ray s) ≡ false
+  unfolding planeCrossing
+  plane = either (magnitude (ray .direction .z) <₆₄ 1e-15) _ _ refl (either (neg (ray .origin .z -₆₄ s .vertex) /₆₄ ray .direction .z <₆₄ neg 1e-7) _ _ refl (landed _ _ _ _))
+
+  curved : going (curvedCrossing ray s) ≡ false
+  unfolding curvedCrossing
+  curved = let e = quadraticOf ray s in either (e .b *₆₄ e .b -₆₄ 4f *₆₄ e .a *₆₄ e .c <₆₄ 0f) _ _ refl (first _)
+
+  crossed : going (conicCrossing ray s) ≡ false
+  unfolding conicCrossing
+  crossed = either (magnitude (s .curvature) <₆₄ 1e-15) (planeCrossing ray s) (curvedCrossing ray s) plane curved
+
+-- how Newton's method ends
+abbrev Bounded : Ended → ℕ → Type 0
+Bounded e n = (going (e .answer) ≡ false) × (e .passes ≤ n)
+
+module _ (q : Shape) (vertex : Float) (ray : Ray) where
+  turn-bounded : (x : Told Landing) (g : Bool) (left made : ℕ) → going x ≡ g → Bounded (passesFrom q vertex ray left (suc made) (x .value .t)) (suc made + left) →
+      Bounded (if g then passesFrom q vertex ray left (suc made) (x .value .t) else ended x (suc made)) (made + suc left)
+  turn-bounded x true left made e b = (b .0, omega (arith, b .1))
+  turn-bounded x false left made e b = (e, omega arith)
+
+  passes-bounded : (left made : ℕ) (t : Float) → Bounded (passesFrom q vertex ray left made t) (made + left)
+  unfolding passesFrom
+  passes-bounded zero made t = (refl, omega arith)
+  passes-bounded (suc left) made t = turn-bounded (passAt q vertex ray t) _ left made refl (passes-bounded left (suc made) _)
+
+  parallel : (b : Bool) → 0 < q .limit → Bounded (if b then ended (noCrossing 6) 1 else passesFrom q vertex ray (q .limit) 0 (vertexPlane vertex ray)) (q .limit)
+  parallel true h = (refl, omega arith)
+  parallel false h = let b = passes-bounded (q .limit) 0 (vertexPlane vertex ray) in (b .0, omega (arith, b .1))
+
+  end-bounded : 0 < q .limit → Bounded (newtonEnd q vertex ray) (q .limit)
+  unfolding newtonEnd
+  end-bounded h = parallel (magnitude (ray .direction .z) <₆₄ 1e-15) h
+
+-- a surface whose passes are a shape's
+module _ (s : Surface) (ray : Ray) (q : Shape) (same : (made : ℕ) (t : Float) → passRule s ray made t ≡ limitedPass q (s .vertex) ray made t) where
+  chosen : (x : Told Landing) (g : Bool) (n made : ℕ) → going x ≡ g → (g ≡ true → chain s ray n (suc made) (x .value .t) ≡ onFrom q (s .vertex) ray (suc made) (x .value .t)) →
+      (if going x then chain s ray n (suc made) (x .value .t) else ended x (suc made)) ≡ next q (s .vertex) ray made x
+  chosen x true n made e h = rw (e, h refl)
+  chosen x false n made e h = rw e
+
+  from-here : (n made : ℕ) (t : Float) → made < q .limit → q .limit ≡ n + made → chain s ray n made t ≡ onFrom q (s .vertex) ray made t
+  unfolding chain
+  from-here zero made t h k = absurd (omega arith)
+  from-here (suc n) made t h k =
+      let x = limitedPass q (s .vertex) ray made t in
+      rw (same made t) (chosen x _ n made refl (λ g. from-here n (suc made) (x .value .t) (more q (s .vertex) ray made t g) (omega arith))
+      ∙ sym (step q (s .vertex) ray made t h))
+
+  by-passes : (t : Float) → surfaceEnd s ray ≡ newtonEnd q (s .vertex) ray → limitBy (s .kind) ≡ q .limit → 0 < q .limit → ChainEnds s ray t
+  by-passes t e l h =
+      let b = end-bounded q (s .vertex) ray h in
+      record {
+        same = rw (l, e) (from-here (q .limit) 0 t h (omega arith));
+        ends = rw e (b .0);
+        within = rw (l, e) (b .1);
+      }
+
+by-kind : (k : Kind) (s : Surface) (ray : Ray) (t : Float) → s .kind ≡ k → ChainEnds s ray t
+unfolding passRule surfaceEnd chain
+by-kind (Conic c k) s ray t e =
+    let x = crossed ray (conicOf s c k) in
+    record { same = rw (e, x); ends = rw (e, x); within = rw e (omega arith) }
+by-kind (Even c k) s ray t e = by-passes s ray (evenShape c k (s .coefficients) (s .semi)) (λ made u. rw e) t (rw e) (rw e) (omega arith)
+by-kind (Biconic cx kx cy ky) s ray t e = by-passes s ray (biconicShape cx kx cy ky (s .semi)) (λ made u. rw e) t (rw e) (rw e) (omega arith)
+by-kind (Toroid rx cy ky) s ray t e = by-passes s ray (toroidShape rx cy ky (s .semi)) (λ made u. rw e) t (rw e) (rw e) (omega arith)
+
+pub chain-ends : (s : Surface) (ray : Ray) (t : Float) → ChainEnds s ray t
+chain-ends s ray t = by-kind (s .kind) s ray t refl

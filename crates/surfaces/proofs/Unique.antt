@@ -1,0 +1,91 @@
+-- What an answer tells is enough to find the answer again. Assumes nothing.
+use mathlib.Core.Path.{_≡_, refl, sym, ap, _∙_}
+use lib.Dec.{eqb}
+use Rattle.numbers.specs.Arithmetic.{if_then_else_}
+use Rattle.surfaces.specs.Told.{Told, Line, done, lineOf, verdictLine, toldNumber, toldSag, toldPair, toldDirection, toldCrossing, toldMeet, toldConic, toldEven, toldOdd, toldBiconic, toldToroid, toldPassed, toldTurned, OneToOne, ToldOneToOne}
+use Rattle.surfaces.specs.Newton.{going}
+use Rattle.surfaces.specs.declared.types.Landing.{Landing}
+use Rattle.surfaces.specs.declared.refusal.Refusal.{Refusal}
+use Rattle.surfaces.specs.declared.refusal.Refusal.the-variants.{InvalidParameter, InvalidSurface, NumericalSingularity, GeometryOutsideAperture, RayMissedSurface, RayVignetted, TotalInternalReflection, NotFinite}
+use Rattle.surfaces.specs.declared.refusal.Verdict.{Verdict}
+use Rattle.surfaces.specs.declared.refusal.Verdict.the-variants as verdict
+use Rattle.surfaces.specs.declared.refusal.Number.the-variants as number
+use Rattle.surfaces.specs.declared.refusal.Sag.the-variants as sag
+use Rattle.surfaces.specs.declared.refusal.Pair.the-variants as pair
+use Rattle.surfaces.specs.declared.refusal.Direction.the-variants as direction
+use Rattle.surfaces.specs.declared.refusal.Crossing.{Crossing}
+use Rattle.surfaces.specs.declared.refusal.Crossing.the-variants as crossing
+use Rattle.surfaces.specs.declared.conic.NewConic.the-variants as new-conic
+use Rattle.surfaces.specs.declared.conic.Meet.the-variants as meet
+use Rattle.surfaces.specs.declared.biconic.NewBiconic.the-variants as new-biconic
+use Rattle.surfaces.specs.declared.biconic.NewToroid.the-variants as new-toroid
+use Rattle.surfaces.specs.declared.surface.Passed.{Passed}
+use Rattle.surfaces.specs.declared.surface.Passed.the-variants as passed
+use Rattle.surfaces.specs.declared.surface.Turned.the-variants as turned
+use Rattle.surfaces.proofs.Refusals.{never-done, has-ended}
+
+-- a function with a way back is one to one
+back-again : {E T : Type 0} (told : E → T) (back : T → E) → ((x : E) → back (told x) ≡ x) → OneToOne told
+back-again told back e x y h = sym (e x) ∙ ap back h ∙ e y
+
+refusalOf : Line → Refusal
+refusalOf l =
+    if eqb (l .number) 2 then InvalidParameter else
+    if eqb (l .number) 3 then InvalidSurface else
+    if eqb (l .number) 4 then NumericalSingularity else
+    if eqb (l .number) 5 then GeometryOutsideAperture else
+    if eqb (l .number) 6 then RayMissedSurface else
+    if eqb (l .number) 7 then RayVignetted (l .r) (l .limit) else
+    if eqb (l .number) 8 then TotalInternalReflection else NotFinite
+
+same : (e : Refusal) → refusalOf (lineOf e) ≡ e
+unfolding refusalOf
+same InvalidParameter = refl
+same InvalidSurface = refl
+same NumericalSingularity = refl
+same GeometryOutsideAperture = refl
+same RayMissedSurface = refl
+same (RayVignetted r l) = refl
+same TotalInternalReflection = refl
+same NotFinite = refl
+
+-- the answer of what is told, for an enum of a value or a refusal
+abbrev answerOf : {A E : Type 0} → (A → E) → (Refusal → E) → Told A → E
+answerOf given refused t = if done t then given (t .value) else refused (refusalOf (t .line))
+
+verdictOf : Line → Verdict
+verdictOf l = if eqb (l .number) 1 then verdict.Accepted else verdict.Refused (refusalOf l)
+
+same-verdict : (v : Verdict) → verdictOf (verdictLine v) ≡ v
+unfolding verdictOf
+same-verdict verdict.Accepted = refl
+same-verdict (verdict.Refused e) = rw (never-done, same)
+
+same-crossing : (x : Crossing) → answerOf crossing.At crossing.Refused (toldCrossing x) ≡ x
+same-crossing (crossing.At l) = refl
+same-crossing (crossing.Refused e) = rw (never-done, same)
+
+passedOf : Told Landing → Passed
+passedOf t = if going t then passed.Again (t .value .t) else passed.Ended (answerOf crossing.At crossing.Refused t)
+
+same-passed : (x : Passed) → passedOf (toldPassed x) ≡ x
+unfolding passedOf
+same-passed (passed.Again t) = refl
+same-passed (passed.Ended x) = rw (has-ended, same-crossing)
+
+pub told-one-to-one : ToldOneToOne
+told-one-to-one = record {
+  number = back-again toldNumber (answerOf number.Is number.Refused) (elim [ number.Is x ↦ refl | number.Refused e ↦ rw (never-done, same) ]);
+  sag = back-again toldSag (answerOf sag.At sag.Refused) (elim [ sag.At z ↦ refl | sag.Refused e ↦ rw (never-done, same) ]);
+  pair = back-again toldPair (answerOf pair.Both pair.Refused) (elim [ pair.Both m ↦ refl | pair.Refused e ↦ rw (never-done, same) ]);
+  direction = back-again toldDirection (answerOf direction.To direction.Refused) (elim [ direction.To v ↦ refl | direction.Refused e ↦ rw (never-done, same) ]);
+  crossing = back-again toldCrossing (answerOf crossing.At crossing.Refused) same-crossing;
+  meet = back-again toldMeet (answerOf meet.Hit meet.Refused) (elim [ meet.Hit h ↦ refl | meet.Refused e ↦ rw (never-done, same) ]);
+  conic = back-again toldConic (answerOf new-conic.Made new-conic.Refused) (elim [ new-conic.Made s ↦ refl | new-conic.Refused e ↦ rw (never-done, same) ]);
+  even = back-again toldEven (λ t. record { verdict = verdictOf (t .line); surface = t .value }) (λ n. rw (same-verdict (n .verdict)));
+  odd = back-again toldOdd (λ t. record { verdict = verdictOf (t .line); surface = t .value }) (λ n. rw (same-verdict (n .verdict)));
+  biconic = back-again toldBiconic (answerOf new-biconic.Made new-biconic.Refused) (elim [ new-biconic.Made s ↦ refl | new-biconic.Refused e ↦ rw (never-done, same) ]);
+  toroid = back-again toldToroid (answerOf new-toroid.Made new-toroid.Refused) (elim [ new-toroid.Made s ↦ refl | new-toroid.Refused e ↦ rw (never-done, same) ]);
+  passed = back-again toldPassed passedOf same-passed;
+  turned = back-again toldTurned (answerOf turned.To turned.Refused) (elim [ turned.To l ↦ refl | turned.Refused e ↦ rw (never-done, same) ]);
+}

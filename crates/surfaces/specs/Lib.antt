@@ -6,3 +6,4 @@ pub mod Newton
 pub mod Asphere
 pub mod Biconic
 pub mod Surface
+pub mod Edges

@@ -1,4 +1,6 @@
 // The functions that bench/ measures, under names that C can link. No part of the product.
+mod surfaced;
+
 ghost use mathlib.Core.Path.{_≡_};
 ghost use lib.Ieee.{isNan};
 ghost use lib.Ieee.Scale.{finite};

@@ -182,7 +182,7 @@ cases =
     (number (evenSagAnswer (even 0f (just-and-nan (1 over 8)) (whole 5)) 4f) ⇒ number (gives 2f)) ∷
     -- its second exit does not check r
     (end (surfaceEnd (surface 0f ½ (Even 0f 0f) noCoefficients) (ray (vec 0f 0f (1 over 2 ^ 30)) (vec (whole (2 ^ 50)) 0f (whole (2 ^ 20))))) ⇒
-      end (ended (gives (landing (neg (1 over 2 ^ 50)) (vec (neg 1f) 0f 0f))) 1)) ∷
+    end (ended (gives (landing (neg (1 over 2 ^ 50)) (vec (neg 1f) 0f 0f))) 1)) ∷
     -- there r may be infinite, which its normal refuses with 2
     (turn (turnRule (surface 0f (whole 10) (Even 0f 0f) noCoefficients) (vec (whole (10 ^ 200)) 0f (whole 1000)) far-out (Media 1f 1f)) ⇒ turn (refused noLeaving (plain 2))) ∷
     -- toroid: both signs of rx, and the circle's rim, which has a sag and no slope

@@ -12,11 +12,11 @@ base-slope-spec =
     (tie.spec
     (λ c κs. tt)
     (λ c.
-      let c1 = c .before in
-      rw (← c1 .abs .ensures, c .if1 .taken))
+    let c1 = c .before in
+    rw (← c1 .abs .ensures, c .if1 .taken))
     (λ c.
-      let c1 = c .before in let c2 = c1 .before in
-      rw (← c2 .abs .ensures, c1 .if1 .left, c .if2 .taken))
+    let c1 = c .before in let c2 = c1 .before in
+    rw (← c2 .abs .ensures, c1 .if1 .left, c .if2 .taken))
     (λ c.
-      let c1 = c .before in let c2 = c1 .before in
-      rw (← c2 .abs .ensures, c1 .if1 .left, c .if2 .left)))
+    let c1 = c .before in let c2 = c1 .before in
+    rw (← c2 .abs .ensures, c1 .if1 .left, c .if2 .left)))

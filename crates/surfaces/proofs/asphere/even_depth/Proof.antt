@@ -14,16 +14,16 @@ even-depth-spec =
     (tie.spec
     (λ c κs. tt)
     (λ c.
-      let c1 = c .before in
-      rw (← c1 .is-finite .ensures, c .if1 .taken))
+    let c1 = c .before in
+    rw (← c1 .is-finite .ensures, c .if1 .taken))
     (λ c κs. tt)
     (λ c. search needs)
     (λ c κs. tt)
     (λ c κs. tt)
     (λ c. search needs)
     (λ c.
-      let c1 = c .before in let c3 = c1 .before .before in let c5 = c3 .before .before in let c7 = c5 .before .before in let c8 = c7 .before in
-      rw (← c8 .is-finite .ensures, c7 .if1 .left, ← c5 .base-root .ensures, c3 .s .given .1, ← c1 .base-sag .ensures, ← c .power-sum .ensures))
+    let c1 = c .before in let c3 = c1 .before .before in let c5 = c3 .before .before in let c7 = c5 .before .before in let c8 = c7 .before in
+    rw (← c8 .is-finite .ensures, c7 .if1 .left, ← c5 .base-root .ensures, c3 .s .given .1, ← c1 .base-sag .ensures, ← c .power-sum .ensures))
     (λ c.
-      let c1 = c .before in let c3 = c1 .before .before in let c5 = c3 .before .before in let c6 = c5 .before in
-      rw (← c6 .is-finite .ensures, c5 .if1 .left, ← c3 .base-root .ensures, c1 .e .given .1, never-done)))
+    let c1 = c .before in let c3 = c1 .before .before in let c5 = c3 .before .before in let c6 = c5 .before in
+    rw (← c6 .is-finite .ensures, c5 .if1 .left, ← c3 .base-root .ensures, c1 .e .given .1, never-done)))

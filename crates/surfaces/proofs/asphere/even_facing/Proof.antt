@@ -13,9 +13,9 @@ even-facing-spec =
     (λ c κs. tt)
     (λ c κs. tt)
     (λ c.
-      let c1 = c .before in let c2 = c1 .before in
-      rw (← c2 .length-of .ensures, ← c1 .is-finite .ensures, c .if1 .taken))
+    let c1 = c .before in let c2 = c1 .before in
+    rw (← c2 .length-of .ensures, ← c1 .is-finite .ensures, c .if1 .taken))
     (λ c κs. tt)
     (λ c.
-      let c1 = c .before in let c2 = c1 .before in let c3 = c2 .before in
-      rw (← c3 .length-of .ensures, ← c2 .is-finite .ensures, c1 .if1 .left, ← c .facing .ensures)))
+    let c1 = c .before in let c2 = c1 .before in let c3 = c2 .before in
+    rw (← c3 .length-of .ensures, ← c2 .is-finite .ensures, c1 .if1 .left, ← c .facing .ensures)))

@@ -14,15 +14,15 @@ even-slope-spec =
     (tie.spec
     (λ c κs. tt)
     (λ c.
-      let c1 = c .before in
-      rw (← c1 .is-finite .ensures, c .if1 .taken))
+    let c1 = c .before in
+    rw (← c1 .is-finite .ensures, c .if1 .taken))
     (λ c κs. tt)
     (λ c. search needs)
     (λ c κs. tt)
     (λ c. search needs)
     (λ c.
-      let c2 = c .before .before in let c4 = c2 .before .before in let c5 = c4 .before in let c6 = c5 .before in
-      rw (← c6 .is-finite .ensures, c5 .if1 .left, ← c4 .base-root .ensures, c2 .s .given .1, ← c .even-slope-from .ensures))
+    let c2 = c .before .before in let c4 = c2 .before .before in let c5 = c4 .before in let c6 = c5 .before in
+    rw (← c6 .is-finite .ensures, c5 .if1 .left, ← c4 .base-root .ensures, c2 .s .given .1, ← c .even-slope-from .ensures))
     (λ c.
-      let c1 = c .before in let c3 = c1 .before .before in let c4 = c3 .before in let c5 = c4 .before in
-      rw (← c5 .is-finite .ensures, c4 .if1 .left, ← c3 .base-root .ensures, c1 .e .given .1, never-done)))
+    let c1 = c .before in let c3 = c1 .before .before in let c4 = c3 .before in let c5 = c4 .before in
+    rw (← c5 .is-finite .ensures, c4 .if1 .left, ← c3 .base-root .ensures, c1 .e .given .1, never-done)))

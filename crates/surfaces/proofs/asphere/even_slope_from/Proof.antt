@@ -17,8 +17,8 @@ even-slope-from-spec =
     (λ c κs. tt)
     (λ c. search needs)
     (λ c.
-      let c2 = c .before .before in let c4 = c2 .before .before in
-      rw (← c4 .base-slope .ensures, c2 .d .given .1, ← c .slope-sum .ensures))
+    let c2 = c .before .before in let c4 = c2 .before .before in
+    rw (← c4 .base-slope .ensures, c2 .d .given .1, ← c .slope-sum .ensures))
     (λ c.
-      let c1 = c .before in let c3 = c1 .before .before in
-      rw (← c3 .base-slope .ensures, c1 .e .given .1, never-done)))
+    let c1 = c .before in let c3 = c1 .before .before in
+    rw (← c3 .base-slope .ensures, c1 .e .given .1, never-done)))

@@ -15,8 +15,8 @@ even-slopes-from-spec =
     (λ c κs. tt)
     (λ c. search needs)
     (λ c.
-      let c2 = c .before .before in let c4 = c2 .before .before in
-      rw (← c4 .even-slope-from .ensures, c2 .d .given .1, ← c .radial-slopes .ensures))
+    let c2 = c .before .before in let c4 = c2 .before .before in
+    rw (← c4 .even-slope-from .ensures, c2 .d .given .1, ← c .radial-slopes .ensures))
     (λ c.
-      let c1 = c .before in let c3 = c1 .before .before in
-      rw (← c3 .even-slope-from .ensures, c1 .e .given .1, never-done)))
+    let c1 = c .before in let c3 = c1 .before .before in
+    rw (← c3 .even-slope-from .ensures, c1 .e .given .1, never-done)))

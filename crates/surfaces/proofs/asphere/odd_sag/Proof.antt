@@ -14,8 +14,8 @@ odd-sag-spec =
     (tie.spec
     (λ c κs. tt)
     (λ c.
-      let c1 = c .before in
-      rw (← c1 .is-finite .ensures, c .if1 .taken))
+    let c1 = c .before in
+    rw (← c1 .is-finite .ensures, c .if1 .taken))
     (λ c κs. tt)
     (λ c. search needs)
     (λ c κs. tt)
@@ -23,8 +23,8 @@ odd-sag-spec =
     (λ c κs. tt)
     (λ c. search needs)
     (λ c.
-      let c1 = c .before in let c2 = c1 .before in let c4 = c2 .before .before in let c6 = c4 .before .before in let c9 = c6 .before .before .before in let c10 = c9 .before in
-      rw (← c10 .is-finite .ensures, c9 .if1 .left, ← c6 .base-root .ensures, c4 .root .given .1, ← c2 .base-sag .ensures, ← c1 .power-sum .ensures, ← c .power-sum2 .ensures))
+    let c1 = c .before in let c2 = c1 .before in let c4 = c2 .before .before in let c6 = c4 .before .before in let c9 = c6 .before .before .before in let c10 = c9 .before in
+    rw (← c10 .is-finite .ensures, c9 .if1 .left, ← c6 .base-root .ensures, c4 .root .given .1, ← c2 .base-sag .ensures, ← c1 .power-sum .ensures, ← c .power-sum2 .ensures))
     (λ c.
-      let c1 = c .before in let c3 = c1 .before .before in let c6 = c3 .before .before .before in let c7 = c6 .before in
-      rw (← c7 .is-finite .ensures, c6 .if1 .left, ← c3 .base-root .ensures, c1 .e .given .1, never-done)))
+    let c1 = c .before in let c3 = c1 .before .before in let c6 = c3 .before .before .before in let c7 = c6 .before in
+    rw (← c7 .is-finite .ensures, c6 .if1 .left, ← c3 .base-root .ensures, c1 .e .given .1, never-done)))

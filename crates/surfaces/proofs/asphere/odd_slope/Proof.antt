@@ -19,8 +19,8 @@ odd-slope-spec =
     (λ c κs. tt)
     (λ c. search needs)
     (λ c.
-      let c1 = c .before in let c2 = c1 .before in let c4 = c2 .before .before in let c6 = c4 .before .before in
-      rw (← c6 .base-root .ensures, c4 .root .given .1, ← c2 .odd-base-slope .ensures, ← c1 .slope-sum .ensures, ← c .slope-sum2 .ensures))
+    let c1 = c .before in let c2 = c1 .before in let c4 = c2 .before .before in let c6 = c4 .before .before in
+    rw (← c6 .base-root .ensures, c4 .root .given .1, ← c2 .odd-base-slope .ensures, ← c1 .slope-sum .ensures, ← c .slope-sum2 .ensures))
     (λ c.
-      let c1 = c .before in let c3 = c1 .before .before in
-      rw (← c3 .base-root .ensures, c1 .e .given .1, never-done)))
+    let c1 = c .before in let c3 = c1 .before .before in
+    rw (← c3 .base-root .ensures, c1 .e .given .1, never-done)))

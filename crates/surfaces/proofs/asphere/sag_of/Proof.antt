@@ -12,8 +12,8 @@ sag-of-spec =
     (λ c. search needs)
     (λ c. search needs)
     (λ c.
-      let c1 = c .before in
-      rw (c1 .d .given .1))
+    let c1 = c .before in
+    rw (c1 .d .given .1))
     (λ c.
-      let c1 = c .before in
-      rw (c1 .d2 .given .1)))
+    let c1 = c .before in
+    rw (c1 .d2 .given .1)))

@@ -16,8 +16,8 @@ base-curve-sag-spec =
     (λ c. search needs)
     (λ c. search needs)
     (λ c.
-      let c1 = c .before in let c3 = c1 .before .before in
-      rw (← c3 .edge-root .ensures, c1 .s .given .1))
+    let c1 = c .before in let c3 = c1 .before .before in
+    rw (← c3 .edge-root .ensures, c1 .s .given .1))
     (λ c.
-      let c1 = c .before in let c3 = c1 .before .before in
-      rw (← c3 .edge-root .ensures, c1 .e .given .1, never-done)))
+    let c1 = c .before in let c3 = c1 .before .before in
+    rw (← c3 .edge-root .ensures, c1 .e .given .1, never-done)))

@@ -13,8 +13,8 @@ base-curve-slope-spec =
     (λ c κs. tt)
     (λ c κs. tt)
     (λ c.
-      let c1 = c .before in let c2 = c1 .before in
-      rw (← c2 .max .ensures, ← c1 .sqrt .ensures, c .if1 .taken))
+    let c1 = c .before in let c2 = c1 .before in
+    rw (← c2 .max .ensures, ← c1 .sqrt .ensures, c .if1 .taken))
     (λ c.
-      let c1 = c .before in let c2 = c1 .before in
-      rw (← c2 .max .ensures, ← c1 .sqrt .ensures, c .if1 .left)))
+    let c1 = c .before in let c2 = c1 .before in
+    rw (← c2 .max .ensures, ← c1 .sqrt .ensures, c .if1 .left)))

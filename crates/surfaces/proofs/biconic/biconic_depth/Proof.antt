@@ -15,16 +15,16 @@ biconic-depth-spec =
     (λ c κs. tt)
     (λ c κs. tt)
     (λ c.
-      let c1 = c .before in let c2 = c1 .before in
-      rw (← c2 .is-finite .ensures, ← c1 .is-finite2 .ensures, c .if1 .taken))
+    let c1 = c .before in let c2 = c1 .before in
+    rw (← c2 .is-finite .ensures, ← c1 .is-finite2 .ensures, c .if1 .taken))
     (λ c κs. tt)
     (λ c κs. tt)
     (λ c κs. tt)
     (λ c. search needs)
     (λ c. search needs)
     (λ c.
-      let c1 = c .before in let c3 = c1 .before .before in let c4 = c3 .before in let c5 = c4 .before in let c6 = c5 .before in let c7 = c6 .before in let c8 = c7 .before in
-      rw (← c8 .is-finite .ensures, ← c7 .is-finite2 .ensures, c6 .if1 .left, ← c5 .numerator .ensures, ← c4 .biconic-radicand .ensures, ← c3 .edge-root .ensures, c1 .s .given .1))
+    let c1 = c .before in let c3 = c1 .before .before in let c4 = c3 .before in let c5 = c4 .before in let c6 = c5 .before in let c7 = c6 .before in let c8 = c7 .before in
+    rw (← c8 .is-finite .ensures, ← c7 .is-finite2 .ensures, c6 .if1 .left, ← c5 .numerator .ensures, ← c4 .biconic-radicand .ensures, ← c3 .edge-root .ensures, c1 .s .given .1))
     (λ c.
-      let c1 = c .before in let c3 = c1 .before .before in let c4 = c3 .before in let c5 = c4 .before in let c6 = c5 .before in let c7 = c6 .before in let c8 = c7 .before in
-      rw (← c8 .is-finite .ensures, ← c7 .is-finite2 .ensures, c6 .if1 .left, ← c5 .numerator .ensures, ← c4 .biconic-radicand .ensures, ← c3 .edge-root .ensures, c1 .e .given .1, never-done)))
+    let c1 = c .before in let c3 = c1 .before .before in let c4 = c3 .before in let c5 = c4 .before in let c6 = c5 .before in let c7 = c6 .before in let c8 = c7 .before in
+    rw (← c8 .is-finite .ensures, ← c7 .is-finite2 .ensures, c6 .if1 .left, ← c5 .numerator .ensures, ← c4 .biconic-radicand .ensures, ← c3 .edge-root .ensures, c1 .e .given .1, never-done)))

@@ -11,5 +11,5 @@ biconic-normal-spec =
     (λ c κs. tt)
     (λ c κs. tt)
     (λ c.
-      let c1 = c .before in
-      rw (← c1 .biconic-slopes .ensures, ← c .normal-of .ensures)))
+    let c1 = c .before in
+    rw (← c1 .biconic-slopes .ensures, ← c .normal-of .ensures)))

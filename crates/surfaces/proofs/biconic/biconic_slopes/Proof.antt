@@ -14,8 +14,8 @@ biconic-slopes-spec =
     (tie.spec
     (λ c κs. tt)
     (λ c.
-      let c1 = c .before in
-      rw (← c1 .on-axis .ensures, c .if1 .taken))
+    let c1 = c .before in
+    rw (← c1 .on-axis .ensures, c .if1 .taken))
     (λ c κs. tt)
     (λ c κs. tt)
     (λ c. search needs)
@@ -23,8 +23,8 @@ biconic-slopes-spec =
     (λ c κs. tt)
     (λ c. search needs)
     (λ c.
-      let c1 = c .before in let c3 = c1 .before .before in let c5 = c3 .before .before in let c6 = c5 .before in let c7 = c6 .before in let c8 = c7 .before in
-      rw (← c8 .on-axis .ensures, c7 .if1 .left, ← c6 .biconic-radicand .ensures, ← c5 .edge-root .ensures, c3 .s .given .1, ← c1 .numerator .ensures, ← c .biconic-slopes-at .ensures))
+    let c1 = c .before in let c3 = c1 .before .before in let c5 = c3 .before .before in let c6 = c5 .before in let c7 = c6 .before in let c8 = c7 .before in
+    rw (← c8 .on-axis .ensures, c7 .if1 .left, ← c6 .biconic-radicand .ensures, ← c5 .edge-root .ensures, c3 .s .given .1, ← c1 .numerator .ensures, ← c .biconic-slopes-at .ensures))
     (λ c.
-      let c1 = c .before in let c3 = c1 .before .before in let c4 = c3 .before in let c5 = c4 .before in let c6 = c5 .before in
-      rw (← c6 .on-axis .ensures, c5 .if1 .left, ← c4 .biconic-radicand .ensures, ← c3 .edge-root .ensures, c1 .e .given .1, never-done)))
+    let c1 = c .before in let c3 = c1 .before .before in let c4 = c3 .before in let c5 = c4 .before in let c6 = c5 .before in
+    rw (← c6 .on-axis .ensures, c5 .if1 .left, ← c4 .biconic-radicand .ensures, ← c3 .edge-root .ensures, c1 .e .given .1, never-done)))

@@ -14,5 +14,5 @@ biconic-slopes-at-spec =
     (λ c κs. tt)
     (λ c κs. tt)
     (λ c.
-      let c1 = c .before in let c2 = c1 .before in
-      rw (c2 .if1 .left, ← c1 .meridian-slope .ensures, ← c .meridian-slope2 .ensures)))
+    let c1 = c .before in let c2 = c1 .before in
+    rw (c2 .if1 .left, ← c1 .meridian-slope .ensures, ← c .meridian-slope2 .ensures)))

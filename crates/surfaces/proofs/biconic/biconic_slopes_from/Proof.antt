@@ -12,9 +12,9 @@ biconic-slopes-from-spec =
     (tie.spec
     (λ c κs. tt)
     (λ c.
-      let c1 = c .before in
-      rw (← c1 .on-axis .ensures, c .if1 .taken))
+    let c1 = c .before in
+    rw (← c1 .on-axis .ensures, c .if1 .taken))
     (λ c κs. tt)
     (λ c.
-      let c1 = c .before in let c2 = c1 .before in
-      rw (← c2 .on-axis .ensures, c1 .if1 .left, ← c .biconic-slopes-at .ensures)))
+    let c1 = c .before in let c2 = c1 .before in
+    rw (← c2 .on-axis .ensures, c1 .if1 .left, ← c .biconic-slopes-at .ensures)))

@@ -11,5 +11,5 @@ circle-slopes-at-spec =
     (λ c κs. tt)
     (λ c κs. tt)
     (λ c.
-      let c1 = c .before in
-      rw (← c1 .sign-of .ensures, ← c .base-curve-slope .ensures)))
+    let c1 = c .before in
+    rw (← c1 .sign-of .ensures, ← c .base-curve-slope .ensures)))

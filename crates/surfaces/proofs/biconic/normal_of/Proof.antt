@@ -15,8 +15,8 @@ normal-of-spec =
     (λ c κs. tt)
     (λ c. search needs)
     (λ c.
-      let c1 = c .before in let c3 = c1 .before .before in
-      rw (c3 .m .given .1, ← c1 .length-of .ensures, ← c .facing .ensures))
+    let c1 = c .before in let c3 = c1 .before .before in
+    rw (c3 .m .given .1, ← c1 .length-of .ensures, ← c .facing .ensures))
     (λ c.
-      let c1 = c .before in
-      rw (c1 .m2 .given .1, never-done)))
+    let c1 = c .before in
+    rw (c1 .m2 .given .1, never-done)))

@@ -13,5 +13,5 @@ on-axis-spec =
     (λ c κs. tt)
     (λ c κs. tt)
     (λ c.
-      let c1 = c .before in
-      rw (← c1 .abs .ensures, ← c .abs2 .ensures)))
+    let c1 = c .before in
+    rw (← c1 .abs .ensures, ← c .abs2 .ensures)))

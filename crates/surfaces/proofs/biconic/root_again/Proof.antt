@@ -13,5 +13,5 @@ root-again-spec =
     (λ c κs. tt)
     (λ c. rw (c .if1 .taken))
     (λ c.
-      let c1 = c .before in
-      rw (c1 .if1 .left, ← c .sqrt .ensures)))
+    let c1 = c .before in
+    rw (c1 .if1 .left, ← c .sqrt .ensures)))

@@ -11,5 +11,5 @@ toroid-normal-spec =
     (λ c κs. tt)
     (λ c κs. tt)
     (λ c.
-      let c1 = c .before in
-      rw (← c1 .toroid-slopes .ensures, ← c .normal-of .ensures)))
+    let c1 = c .before in
+    rw (← c1 .toroid-slopes .ensures, ← c .normal-of .ensures)))

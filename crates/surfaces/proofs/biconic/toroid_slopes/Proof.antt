@@ -15,8 +15,8 @@ toroid-slopes-spec =
     (λ c κs. tt)
     (λ c. search needs)
     (λ c.
-      let c2 = c .before .before in let c4 = c2 .before .before in
-      rw (← c4 .base-curve-sag .ensures, c2 .zy .given .1, ← c .circle-slopes .ensures))
+    let c2 = c .before .before in let c4 = c2 .before .before in
+    rw (← c4 .base-curve-sag .ensures, c2 .zy .given .1, ← c .circle-slopes .ensures))
     (λ c.
-      let c1 = c .before in let c3 = c1 .before .before in
-      rw (← c3 .base-curve-sag .ensures, c1 .e .given .1, never-done)))
+    let c1 = c .before in let c3 = c1 .before .before in
+    rw (← c3 .base-curve-sag .ensures, c1 .e .given .1, never-done)))

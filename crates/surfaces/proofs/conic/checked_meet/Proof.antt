@@ -16,9 +16,9 @@ checked-meet-spec =
     (λ c κs. tt)
     (λ c. search needs)
     (λ c.
-      let c1 = c .before in let c2 = c1 .before in let c3 = c2 .before in let c7 = c3 .before .before .before .before in
-      rw (c7 .a .given .1, ← c3 .is-finite .ensures, ← c2 .all-finite .ensures, ← c1 .all-finite2 .ensures, c .if1 .taken))
+    let c1 = c .before in let c2 = c1 .before in let c3 = c2 .before in let c7 = c3 .before .before .before .before in
+    rw (c7 .a .given .1, ← c3 .is-finite .ensures, ← c2 .all-finite .ensures, ← c1 .all-finite2 .ensures, c .if1 .taken))
     (λ c.
-      let c1 = c .before in let c2 = c1 .before in let c3 = c2 .before in let c7 = c3 .before .before .before .before in
-      rw (c7 .a .given .1, ← c3 .is-finite .ensures, ← c2 .all-finite .ensures, ← c1 .all-finite2 .ensures, c .if1 .left))
+    let c1 = c .before in let c2 = c1 .before in let c3 = c2 .before in let c7 = c3 .before .before .before .before in
+    rw (c7 .a .given .1, ← c3 .is-finite .ensures, ← c2 .all-finite .ensures, ← c1 .all-finite2 .ensures, c .if1 .left))
     (λ c. rw (c .enum-told .given .1, never-done)))

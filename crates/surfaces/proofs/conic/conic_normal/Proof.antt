@@ -11,10 +11,10 @@ conic-normal-spec =
     (λ c κs. tt)
     (λ c κs. tt)
     (λ c.
-      let c1 = c .before in let c2 = c1 .before in
-      rw (← c2 .all-finite .ensures, ← c1 .conic-finite .ensures, c .if1 .taken))
+    let c1 = c .before in let c2 = c1 .before in
+    rw (← c2 .all-finite .ensures, ← c1 .conic-finite .ensures, c .if1 .taken))
     (λ c κs. tt)
     (λ c κs. tt)
     (λ c.
-      let c1 = c .before in let c2 = c1 .before in let c3 = c2 .before in let c4 = c3 .before in
-      rw (← c4 .all-finite .ensures, ← c3 .conic-finite .ensures, c2 .if1 .left, ← c1 .raw-normal .ensures, ← c .checked-direction .ensures)))
+    let c1 = c .before in let c2 = c1 .before in let c3 = c2 .before in let c4 = c3 .before in
+    rw (← c4 .all-finite .ensures, ← c3 .conic-finite .ensures, c2 .if1 .left, ← c1 .raw-normal .ensures, ← c .checked-direction .ensures)))

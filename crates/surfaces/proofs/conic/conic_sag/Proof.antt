@@ -11,5 +11,5 @@ conic-sag-spec =
     (λ c κs. tt)
     (λ c κs. tt)
     (λ c.
-      let c1 = c .before in
-      rw (← c1 .raw-sag .ensures, ← c .checked-sag .ensures)))
+    let c1 = c .before in
+    rw (← c1 .raw-sag .ensures, ← c .checked-sag .ensures)))

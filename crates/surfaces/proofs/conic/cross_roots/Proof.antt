@@ -20,17 +20,17 @@ cross-roots-spec =
     (λ c κs. tt)
     (λ c. search needs)
     (λ c.
-      let c1 = c .before in let c3 = c1 .before .before in let c6 = c3 .before .before .before in
-      rw (c6 .x .given .1, c3 .y .given .1, c1 .if1 .taken, ← c .cross-two .ensures))
+    let c1 = c .before in let c3 = c1 .before .before in let c6 = c3 .before .before .before in
+    rw (c6 .x .given .1, c3 .y .given .1, c1 .if1 .taken, ← c .cross-two .ensures))
     (λ c.
-      let c1 = c .before in let c3 = c1 .before .before in let c6 = c3 .before .before .before in
-      rw (c6 .x .given .1, c3 .y .given .1, c1 .if1 .left, ← c .cross-two2 .ensures))
+    let c1 = c .before in let c3 = c1 .before .before in let c6 = c3 .before .before .before in
+    rw (c6 .x .given .1, c3 .y .given .1, c1 .if1 .left, ← c .cross-two2 .ensures))
     (λ c.
-      let c1 = c .before in let c4 = c1 .before .before .before in
-      rw (c4 .x .given .1, c1 .enum-told .given .1, ← c .cross-one .ensures))
+    let c1 = c .before in let c4 = c1 .before .before .before in
+    rw (c4 .x .given .1, c1 .enum-told .given .1, ← c .cross-one .ensures))
     (λ c.
-      let c2 = c .before .before in let c4 = c2 .before .before in
-      rw (c4 .enum-told2 .given .1, c2 .y2 .given .1, ← c .cross-one2 .ensures))
+    let c2 = c .before .before in let c4 = c2 .before .before in
+    rw (c4 .enum-told2 .given .1, c2 .y2 .given .1, ← c .cross-one2 .ensures))
     (λ c.
-      let c2 = c .before .before in
-      rw (c2 .enum-told2 .given .1, c .enum-told3 .given .1)))
+    let c2 = c .before .before in
+    rw (c2 .enum-told2 .given .1, c .enum-told3 .given .1)))

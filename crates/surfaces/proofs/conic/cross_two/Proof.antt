@@ -14,8 +14,8 @@ cross-two-spec =
     (λ c κs. tt)
     (λ c κs. tt)
     (λ c.
-      let c1 = c .before in let c2 = c1 .before in let c3 = c2 .before in let c4 = c3 .before in
-      rw (← c4 .point-at .ensures, ← c3 .radius .ensures, ← c2 .on-sheet .ensures, c1 .if1 .taken, ← c .landed-within .ensures))
+    let c1 = c .before in let c2 = c1 .before in let c3 = c2 .before in let c4 = c3 .before in
+    rw (← c4 .point-at .ensures, ← c3 .radius .ensures, ← c2 .on-sheet .ensures, c1 .if1 .taken, ← c .landed-within .ensures))
     (λ c.
-      let c1 = c .before in let c2 = c1 .before in let c3 = c2 .before in let c4 = c3 .before in
-      rw (← c4 .point-at .ensures, ← c3 .radius .ensures, ← c2 .on-sheet .ensures, c1 .if1 .left, ← c .cross-one .ensures)))
+    let c1 = c .before in let c2 = c1 .before in let c3 = c2 .before in let c4 = c3 .before in
+    rw (← c4 .point-at .ensures, ← c3 .radius .ensures, ← c2 .on-sheet .ensures, c1 .if1 .left, ← c .cross-one .ensures)))

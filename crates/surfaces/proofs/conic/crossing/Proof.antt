@@ -14,8 +14,8 @@ crossing-spec =
     (λ c κs. tt)
     (λ c κs. tt)
     (λ c.
-      let c1 = c .before in let c2 = c1 .before in
-      rw (← c2 .abs .ensures, c1 .if1 .taken, ← c .plane-crossing .ensures))
+    let c1 = c .before in let c2 = c1 .before in
+    rw (← c2 .abs .ensures, c1 .if1 .taken, ← c .plane-crossing .ensures))
     (λ c.
-      let c1 = c .before in let c2 = c1 .before in
-      rw (← c2 .abs .ensures, c1 .if1 .left, ← c .curved-crossing .ensures)))
+    let c1 = c .before in let c2 = c1 .before in
+    rw (← c2 .abs .ensures, c1 .if1 .left, ← c .curved-crossing .ensures)))

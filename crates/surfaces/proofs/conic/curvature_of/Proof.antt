@@ -12,8 +12,8 @@ curvature-of-spec =
     (tie.spec
     (λ c κs. tt)
     (λ c.
-      let c1 = c .before in
-      rw (← c1 .is-infinite .ensures, c .if1 .taken))
+    let c1 = c .before in
+    rw (← c1 .is-infinite .ensures, c .if1 .taken))
     (λ c.
-      let c1 = c .before in
-      rw (← c1 .is-infinite .ensures, c .if1 .left)))
+    let c1 = c .before in
+    rw (← c1 .is-infinite .ensures, c .if1 .left)))

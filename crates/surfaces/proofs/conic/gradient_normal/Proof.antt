@@ -14,10 +14,10 @@ gradient-normal-spec =
     (λ c κs. tt)
     (λ c κs. tt)
     (λ c.
-      let c1 = c .before in let c2 = c1 .before in let c7 = c2 .before .before .before .before .before in
-      rw (c7 .if1 .left, ← c2 .dot .ensures, ← c1 .is-finite .ensures, c .if2 .taken))
+    let c1 = c .before in let c2 = c1 .before in let c7 = c2 .before .before .before .before .before in
+    rw (c7 .if1 .left, ← c2 .dot .ensures, ← c1 .is-finite .ensures, c .if2 .taken))
     (λ c κs. tt)
     (λ c κs. tt)
     (λ c.
-      let c1 = c .before in let c2 = c1 .before in let c3 = c2 .before in let c4 = c3 .before in let c9 = c4 .before .before .before .before .before in
-      rw (c9 .if1 .left, ← c4 .dot .ensures, ← c3 .is-finite .ensures, c2 .if2 .left, ← c1 .sqrt .ensures, ← c .over .ensures)))
+    let c1 = c .before in let c2 = c1 .before in let c3 = c2 .before in let c4 = c3 .before in let c9 = c4 .before .before .before .before .before in
+    rw (c9 .if1 .left, ← c4 .dot .ensures, ← c3 .is-finite .ensures, c2 .if2 .left, ← c1 .sqrt .ensures, ← c .over .ensures)))

@@ -12,6 +12,6 @@ keep-spec =
     (tie.spec
     (λ c κs. tt)
     (λ c.
-      let c1 = c .before in
-      rw (c1 .if1 .taken, ← c .max .ensures))
+    let c1 = c .before in
+    rw (c1 .if1 .taken, ← c .max .ensures))
     (λ c. rw (c .if1 .left)))

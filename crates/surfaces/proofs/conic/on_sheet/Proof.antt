@@ -17,8 +17,8 @@ on-sheet-spec =
     (λ c κs. tt)
     (λ c. search needs)
     (λ c.
-      let c4 = c .before .before .before .before in let c6 = c4 .before .before in
-      rw (← c6 .raw-sag .ensures, c4 .z .given .1, ← c .abs .ensures))
+    let c4 = c .before .before .before .before in let c6 = c4 .before .before in
+    rw (← c6 .raw-sag .ensures, c4 .z .given .1, ← c .abs .ensures))
     (λ c.
-      let c2 = c .before .before in
-      rw (← c2 .raw-sag .ensures, c .enum-told .given .1, never-done)))
+    let c2 = c .before .before in
+    rw (← c2 .raw-sag .ensures, c .enum-told .given .1, never-done)))

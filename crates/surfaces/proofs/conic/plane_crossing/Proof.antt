@@ -12,15 +12,15 @@ plane-crossing-spec =
     (tie.spec
     (λ c κs. tt)
     (λ c.
-      let c1 = c .before in
-      rw (← c1 .abs .ensures, c .if1 .taken))
+    let c1 = c .before in
+    rw (← c1 .abs .ensures, c .if1 .taken))
     (λ c.
-      let c1 = c .before in let c2 = c1 .before in
-      rw (← c2 .abs .ensures, c1 .if1 .left, c .if2 .taken))
+    let c1 = c .before in let c2 = c1 .before in
+    rw (← c2 .abs .ensures, c1 .if1 .left, c .if2 .taken))
     (λ c κs. tt)
     (λ c κs. tt)
     (λ c κs. tt)
     (λ c κs. tt)
     (λ c.
-      let c1 = c .before in let c2 = c1 .before in let c3 = c2 .before in let c4 = c3 .before in let c5 = c4 .before in let c6 = c5 .before in
-      rw (← c6 .abs .ensures, c5 .if1 .left, c4 .if2 .left, ← c3 .max .ensures, ← c2 .point-at .ensures, ← c1 .radius .ensures, ← c .landed-within .ensures)))
+    let c1 = c .before in let c2 = c1 .before in let c3 = c2 .before in let c4 = c3 .before in let c5 = c4 .before in let c6 = c5 .before in
+    rw (← c6 .abs .ensures, c5 .if1 .left, c4 .if2 .left, ← c3 .max .ensures, ← c2 .point-at .ensures, ← c1 .radius .ensures, ← c .landed-within .ensures)))

@@ -12,8 +12,8 @@ radius-of-spec =
     (tie.spec
     (λ c κs. tt)
     (λ c.
-      let c1 = c .before in
-      rw (← c1 .abs .ensures, c .if1 .taken))
+    let c1 = c .before in
+    rw (← c1 .abs .ensures, c .if1 .taken))
     (λ c.
-      let c1 = c .before in
-      rw (← c1 .abs .ensures, c .if1 .left)))
+    let c1 = c .before in
+    rw (← c1 .abs .ensures, c .if1 .left)))

@@ -18,11 +18,11 @@ raw-meet-spec =
     (λ c. search needs)
     (λ c. search needs)
     (λ c.
-      let c2 = c .before .before in let c4 = c2 .before .before in let c7 = c4 .before .before .before in let c9 = c7 .before .before in
-      rw (← c9 .crossing .ensures, c7 .l .given .1, ← c4 .normal-at .ensures, c2 .n .given .1, ← c .hit-at .ensures))
+    let c2 = c .before .before in let c4 = c2 .before .before in let c7 = c4 .before .before .before in let c9 = c7 .before .before in
+    rw (← c9 .crossing .ensures, c7 .l .given .1, ← c4 .normal-at .ensures, c2 .n .given .1, ← c .hit-at .ensures))
     (λ c.
-      let c1 = c .before in let c3 = c1 .before .before in let c6 = c3 .before .before .before in let c8 = c6 .before .before in
-      rw (← c8 .crossing .ensures, c6 .l .given .1, ← c3 .normal-at .ensures, c1 .e .given .1, never-done))
+    let c1 = c .before in let c3 = c1 .before .before in let c6 = c3 .before .before .before in let c8 = c6 .before .before in
+    rw (← c8 .crossing .ensures, c6 .l .given .1, ← c3 .normal-at .ensures, c1 .e .given .1, never-done))
     (λ c.
-      let c1 = c .before in let c3 = c1 .before .before in
-      rw (← c3 .crossing .ensures, c1 .e2 .given .1, never-done)))
+    let c1 = c .before in let c3 = c1 .before .before in
+    rw (← c3 .crossing .ensures, c1 .e2 .given .1, never-done)))

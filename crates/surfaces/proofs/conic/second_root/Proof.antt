@@ -14,8 +14,8 @@ second-root-spec =
     (λ c κs. tt)
     (λ c κs. tt)
     (λ c.
-      let c1 = c .before in let c2 = c1 .before in let c3 = c2 .before in
-      rw (← c3 .abs .ensures, ← c2 .abs2 .ensures, c1 .if1 .taken, ← c .keep .ensures))
+    let c1 = c .before in let c2 = c1 .before in let c3 = c2 .before in
+    rw (← c3 .abs .ensures, ← c2 .abs2 .ensures, c1 .if1 .taken, ← c .keep .ensures))
     (λ c.
-      let c1 = c .before in let c2 = c1 .before in
-      rw (← c2 .abs .ensures, ← c1 .abs2 .ensures, c .if1 .left)))
+    let c1 = c .before in let c2 = c1 .before in
+    rw (← c2 .abs .ensures, ← c1 .abs2 .ensures, c .if1 .left)))

@@ -15,9 +15,9 @@ checked-crossing-spec =
     (λ c κs. tt)
     (λ c. search needs)
     (λ c.
-      let c1 = c .before in let c2 = c1 .before in let c5 = c2 .before .before .before in
-      rw (c5 .a .given .1, ← c2 .is-finite .ensures, ← c1 .all-finite .ensures, c .if1 .taken))
+    let c1 = c .before in let c2 = c1 .before in let c5 = c2 .before .before .before in
+    rw (c5 .a .given .1, ← c2 .is-finite .ensures, ← c1 .all-finite .ensures, c .if1 .taken))
     (λ c.
-      let c1 = c .before in let c2 = c1 .before in let c5 = c2 .before .before .before in
-      rw (c5 .a .given .1, ← c2 .is-finite .ensures, ← c1 .all-finite .ensures, c .if1 .left))
+    let c1 = c .before in let c2 = c1 .before in let c5 = c2 .before .before .before in
+    rw (c5 .a .given .1, ← c2 .is-finite .ensures, ← c1 .all-finite .ensures, c .if1 .left))
     (λ c. rw (c .enum-told .given .1, never-done)))

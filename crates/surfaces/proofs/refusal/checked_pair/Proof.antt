@@ -15,9 +15,9 @@ checked-pair-spec =
     (λ c κs. tt)
     (λ c. search needs)
     (λ c.
-      let c1 = c .before in let c2 = c1 .before in let c4 = c2 .before .before in
-      rw (c4 .a .given .1, ← c2 .is-finite .ensures, ← c1 .is-finite2 .ensures, c .if1 .taken))
+    let c1 = c .before in let c2 = c1 .before in let c4 = c2 .before .before in
+    rw (c4 .a .given .1, ← c2 .is-finite .ensures, ← c1 .is-finite2 .ensures, c .if1 .taken))
     (λ c.
-      let c1 = c .before in let c2 = c1 .before in let c4 = c2 .before .before in
-      rw (c4 .a .given .1, ← c2 .is-finite .ensures, ← c1 .is-finite2 .ensures, c .if1 .left))
+    let c1 = c .before in let c2 = c1 .before in let c4 = c2 .before .before in
+    rw (c4 .a .given .1, ← c2 .is-finite .ensures, ← c1 .is-finite2 .ensures, c .if1 .left))
     (λ c. rw (c .enum-told .given .1, never-done)))

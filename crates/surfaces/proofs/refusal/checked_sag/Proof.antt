@@ -15,9 +15,9 @@ checked-sag-spec =
     (λ c κs. tt)
     (λ c. search needs)
     (λ c.
-      let c1 = c .before in let c3 = c1 .before .before in
-      rw (c3 .a .given .1, ← c1 .is-finite .ensures, c .if1 .taken))
+    let c1 = c .before in let c3 = c1 .before .before in
+    rw (c3 .a .given .1, ← c1 .is-finite .ensures, c .if1 .taken))
     (λ c.
-      let c1 = c .before in let c3 = c1 .before .before in
-      rw (c3 .a .given .1, ← c1 .is-finite .ensures, c .if1 .left))
+    let c1 = c .before in let c3 = c1 .before .before in
+    rw (c3 .a .given .1, ← c1 .is-finite .ensures, c .if1 .left))
     (λ c. rw (c .enum-told .given .1, never-done)))

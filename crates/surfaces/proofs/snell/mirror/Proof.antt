@@ -14,5 +14,5 @@ mirror-spec =
     (λ c κs. tt)
     (λ c κs. tt)
     (λ c.
-      let c6 = c .before .before .before .before .before .before in let c7 = c6 .before in let c8 = c7 .before in
-      rw (← c8 .dot .ensures, ← c7 .turned-if .ensures, ← c6 .negated-if .ensures)))
+    let c6 = c .before .before .before .before .before .before in let c7 = c6 .before in let c8 = c7 .before in
+    rw (← c8 .dot .ensures, ← c7 .turned-if .ensures, ← c6 .negated-if .ensures)))

@@ -11,5 +11,5 @@ reflect-spec =
     (λ c κs. tt)
     (λ c κs. tt)
     (λ c.
-      let c1 = c .before in
-      rw (← c1 .raw-reflect .ensures, ← c .checked-direction .ensures)))
+    let c1 = c .before in
+    rw (← c1 .raw-reflect .ensures, ← c .checked-direction .ensures)))

@@ -11,5 +11,5 @@ snell-refract-spec =
     (λ c κs. tt)
     (λ c κs. tt)
     (λ c.
-      let c1 = c .before in
-      rw (← c1 .raw-refract .ensures, ← c .checked-direction .ensures)))
+    let c1 = c .before in
+    rw (← c1 .raw-refract .ensures, ← c .checked-direction .ensures)))

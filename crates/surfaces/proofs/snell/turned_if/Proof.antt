@@ -9,6 +9,6 @@ turned-if-spec =
     tie.close
     (tie.spec
     (λ c.
-      let c3 = c .before .before .before in
-      rw (c3 .if1 .taken))
+    let c3 = c .before .before .before in
+    rw (c3 .if1 .taken))
     (λ c. rw (c .if1 .left)))

@@ -12,8 +12,8 @@ arrived-spec =
     (λ c κs. tt)
     (λ c κs. tt)
     (λ c.
-      let c1 = c .before in let c2 = c1 .before in let c3 = c2 .before in
-      rw (← c3 .point-at .ensures, c2 .if1 .taken, ← c1 .radius .ensures, ← c .landed-within .ensures))
+    let c1 = c .before in let c2 = c1 .before in let c3 = c2 .before in
+    rw (← c3 .point-at .ensures, c2 .if1 .taken, ← c1 .radius .ensures, ← c .landed-within .ensures))
     (λ c.
-      let c1 = c .before in
-      rw (← c1 .point-at .ensures, c .if1 .left)))
+    let c1 = c .before in
+    rw (← c1 .point-at .ensures, c .if1 .left)))

@@ -14,11 +14,11 @@ depth-spec =
     (λ c. search needs)
     (λ c κs. tt)
     (λ c.
-      let c2 = c .before .before in
-      rw (c2 .q .given .1, ← c .even-depth .ensures))
+    let c2 = c .before .before in
+    rw (c2 .q .given .1, ← c .even-depth .ensures))
     (λ c.
-      let c2 = c .before .before in
-      rw (c2 .q2 .given .1, ← c .biconic-depth .ensures))
+    let c2 = c .before .before in
+    rw (c2 .q2 .given .1, ← c .biconic-depth .ensures))
     (λ c.
-      let c2 = c .before .before in
-      rw (c2 .q3 .given .1, ← c .toroid-depth .ensures)))
+    let c2 = c .before .before in
+    rw (c2 .q3 .given .1, ← c .toroid-depth .ensures)))

@@ -13,15 +13,15 @@ next-pass-spec =
     (tie.spec
     (λ c κs. tt)
     (λ c.
-      let c1 = c .before in
-      rw (ne-eqb _ 0 (c1 .if1 .taken), ← c .pass-at .ensures))
+    let c1 = c .before in
+    rw (ne-eqb _ 0 (c1 .if1 .taken), ← c .pass-at .ensures))
     (λ c κs. tt)
     (λ c κs. tt)
     (λ c.
-      let c1 = c .before in let c2 = c1 .before in let c3 = c2 .before in
-      rw (eq-eqb _ 0 (c3 .if1 .left), ← c2 .abs .ensures, c1 .if2 .taken, ← c .missed .ensures))
+    let c1 = c .before in let c2 = c1 .before in let c3 = c2 .before in
+    rw (eq-eqb _ 0 (c3 .if1 .left), ← c2 .abs .ensures, c1 .if2 .taken, ← c .missed .ensures))
     (λ c κs. tt)
     (λ c κs. tt)
     (λ c.
-      let c1 = c .before in let c2 = c1 .before in let c3 = c2 .before in let c4 = c3 .before in
-      rw (eq-eqb _ 0 (c4 .if1 .left), ← c3 .abs .ensures, c2 .if2 .left, ← c1 .vertex-plane .ensures, ← c .pass-at2 .ensures)))
+    let c1 = c .before in let c2 = c1 .before in let c3 = c2 .before in let c4 = c3 .before in
+    rw (eq-eqb _ 0 (c4 .if1 .left), ← c3 .abs .ensures, c2 .if2 .left, ← c1 .vertex-plane .ensures, ← c .pass-at2 .ensures)))

@@ -14,8 +14,8 @@ onward-spec =
     (λ c. search needs)
     (λ c κs. tt)
     (λ c.
-      let c1 = c .before in
-      rw (c1 .enum-told .given .1, ← c .raw-reflect .ensures))
+    let c1 = c .before in
+    rw (c1 .enum-told .given .1, ← c .raw-reflect .ensures))
     (λ c.
-      let c2 = c .before .before in
-      rw (c2 .b .given .1, ← c .raw-refract .ensures)))
+    let c2 = c .before .before in
+    rw (c2 .b .given .1, ← c .raw-refract .ensures)))

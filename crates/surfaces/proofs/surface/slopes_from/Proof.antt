@@ -16,11 +16,11 @@ slopes-from-spec =
     (λ c. search needs)
     (λ c κs. tt)
     (λ c.
-      let c2 = c .before .before in
-      rw (c2 .q .given .1, ← c .even-slopes-from .ensures))
+    let c2 = c .before .before in
+    rw (c2 .q .given .1, ← c .even-slopes-from .ensures))
     (λ c.
-      let c2 = c .before .before in
-      rw (c2 .q2 .given .1, ← c .biconic-slopes-from .ensures))
+    let c2 = c .before .before in
+    rw (c2 .q2 .given .1, ← c .biconic-slopes-from .ensures))
     (λ c.
-      let c2 = c .before .before in
-      rw (c2 .q3 .given .1, ← c .toroid-slopes-from .ensures)))
+    let c2 = c .before .before in
+    rw (c2 .q3 .given .1, ← c .toroid-slopes-from .ensures)))

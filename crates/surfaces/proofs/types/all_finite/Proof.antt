@@ -12,5 +12,5 @@ all-finite-spec =
     (λ c κs. tt)
     (λ c κs. tt)
     (λ c.
-      let c1 = c .before in let c2 = c1 .before in
-      rw (← c2 .is-finite .ensures, ← c1 .is-finite2 .ensures, ← c .is-finite3 .ensures)))
+    let c1 = c .before in let c2 = c1 .before in
+    rw (← c2 .is-finite .ensures, ← c1 .is-finite2 .ensures, ← c .is-finite3 .ensures)))

@@ -11,5 +11,5 @@ ray-finite-spec =
     (λ c κs. tt)
     (λ c κs. tt)
     (λ c.
-      let c1 = c .before in
-      rw (← c1 .all-finite .ensures, ← c .all-finite2 .ensures)))
+    let c1 = c .before in
+    rw (← c1 .all-finite .ensures, ← c .all-finite2 .ensures)))

@@ -13,8 +13,8 @@ new-spec =
     (λ c κs. tt)
     (λ c κs. tt)
     (λ c.
-      let c1 = c .before in let c2 = c1 .before in
-      rw (← c2 .is-good .ensures, c1 .if1 .taken, ← c .no-coefficients .ensures))
+    let c1 = c .before in let c2 = c1 .before in
+    rw (← c2 .is-good .ensures, c1 .if1 .taken, ← c .no-coefficients .ensures))
     (λ c.
-      let c1 = c .before in
-      rw (← c1 .is-good .ensures, c .if1 .left)))
+    let c1 = c .before in
+    rw (← c1 .is-good .ensures, c .if1 .left)))

@@ -12,10 +12,10 @@ paraxial-curvature-spec =
     (tie.spec
     (λ c κs. tt)
     (λ c.
-      let c1 = c .before in
-      rw (← c1 .is-good .ensures, c .if1 .taken))
+    let c1 = c .before in
+    rw (← c1 .is-good .ensures, c .if1 .taken))
     (λ c κs. tt)
     (λ c κs. tt)
     (λ c.
-      let c2 = c .before .before in let c4 = c2 .before .before in let c5 = c4 .before in
-      rw (← c5 .is-good .ensures, c4 .if1 .left, ← c2 .first-or-zero .ensures, ← c .checked-number .ensures)))
+    let c2 = c .before .before in let c4 = c2 .before .before in let c5 = c4 .before in
+    rw (← c5 .is-good .ensures, c4 .if1 .left, ← c2 .first-or-zero .ensures, ← c .checked-number .ensures)))

@@ -11,10 +11,10 @@ radial-derivative-spec =
     (λ c κs. tt)
     (λ c κs. tt)
     (λ c.
-      let c1 = c .before in let c2 = c1 .before in
-      rw (← c2 .is-finite .ensures, ← c1 .is-good .ensures, c .if1 .taken))
+    let c1 = c .before in let c2 = c1 .before in
+    rw (← c2 .is-finite .ensures, ← c1 .is-good .ensures, c .if1 .taken))
     (λ c κs. tt)
     (λ c κs. tt)
     (λ c.
-      let c1 = c .before in let c3 = c1 .before .before in let c4 = c3 .before in let c5 = c4 .before in
-      rw (← c5 .is-finite .ensures, ← c4 .is-good .ensures, c3 .if1 .left, ← c1 .even-slope .ensures, ← c .checked-number .ensures)))
+    let c1 = c .before in let c3 = c1 .before .before in let c4 = c3 .before in let c5 = c4 .before in
+    rw (← c5 .is-finite .ensures, ← c4 .is-good .ensures, c3 .if1 .left, ← c1 .even-slope .ensures, ← c .checked-number .ensures)))

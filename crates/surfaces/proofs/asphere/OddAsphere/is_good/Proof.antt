@@ -14,5 +14,5 @@ is-good-spec =
     (λ c κs. tt)
     (λ c κs. tt)
     (λ c.
-      let c1 = c .before in let c2 = c1 .before in let c3 = c2 .before in let c4 = c3 .before in
-      rw (← c4 .is-finite .ensures, ← c3 .is-finite2 .ensures, ← c2 .is-finite3 .ensures, ← c1 .coefficients-good .ensures, ← c .coefficients-good2 .ensures)))
+    let c1 = c .before in let c2 = c1 .before in let c3 = c2 .before in let c4 = c3 .before in
+    rw (← c4 .is-finite .ensures, ← c3 .is-finite2 .ensures, ← c2 .is-finite3 .ensures, ← c1 .coefficients-good .ensures, ← c .coefficients-good2 .ensures)))

@@ -14,8 +14,8 @@ new-spec =
     (λ c κs. tt)
     (λ c κs. tt)
     (λ c.
-      let c1 = c .before in let c2 = c1 .before in let c3 = c2 .before in
-      rw (← c3 .is-good .ensures, c2 .if1 .taken, c1 .no-coefficients .ensures, c .no-coefficients2 .ensures))
+    let c1 = c .before in let c2 = c1 .before in let c3 = c2 .before in
+    rw (← c3 .is-good .ensures, c2 .if1 .taken, c1 .no-coefficients .ensures, c .no-coefficients2 .ensures))
     (λ c.
-      let c1 = c .before in
-      rw (← c1 .is-good .ensures, c .if1 .left)))
+    let c1 = c .before in
+    rw (← c1 .is-good .ensures, c .if1 .left)))

@@ -11,10 +11,10 @@ sag-spec =
     (λ c κs. tt)
     (λ c κs. tt)
     (λ c.
-      let c1 = c .before in let c2 = c1 .before in
-      rw (← c2 .is-finite .ensures, ← c1 .is-good .ensures, c .if1 .taken))
+    let c1 = c .before in let c2 = c1 .before in
+    rw (← c2 .is-finite .ensures, ← c1 .is-good .ensures, c .if1 .taken))
     (λ c κs. tt)
     (λ c κs. tt)
     (λ c.
-      let c1 = c .before in let c2 = c1 .before in let c3 = c2 .before in let c4 = c3 .before in
-      rw (← c4 .is-finite .ensures, ← c3 .is-good .ensures, c2 .if1 .left, ← c1 .odd-sag .ensures, ← c .checked-sag .ensures)))
+    let c1 = c .before in let c2 = c1 .before in let c3 = c2 .before in let c4 = c3 .before in
+    rw (← c4 .is-finite .ensures, ← c3 .is-good .ensures, c2 .if1 .left, ← c1 .odd-sag .ensures, ← c .checked-sag .ensures)))

@@ -10,8 +10,8 @@ paraxial-curvatures-spec =
     (tie.spec
     (λ c κs. tt)
     (λ c.
-      let c1 = c .before in
-      rw (← c1 .is-good .ensures, c .if1 .taken))
+    let c1 = c .before in
+    rw (← c1 .is-good .ensures, c .if1 .taken))
     (λ c.
-      let c1 = c .before in
-      rw (← c1 .is-good .ensures, c .if1 .left)))
+    let c1 = c .before in
+    rw (← c1 .is-good .ensures, c .if1 .left)))

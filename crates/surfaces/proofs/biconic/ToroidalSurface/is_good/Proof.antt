@@ -13,5 +13,5 @@ is-good-spec =
     (λ c κs. tt)
     (λ c κs. tt)
     (λ c.
-      let c1 = c .before in let c2 = c1 .before in let c3 = c2 .before in
-      rw (← c3 .is-finite .ensures, ← c2 .is-finite2 .ensures, ← c1 .is-finite3 .ensures, ← c .is-finite4 .ensures)))
+    let c1 = c .before in let c2 = c1 .before in let c3 = c2 .before in
+    rw (← c3 .is-finite .ensures, ← c2 .is-finite2 .ensures, ← c1 .is-finite3 .ensures, ← c .is-finite4 .ensures)))

@@ -14,11 +14,11 @@ from-curvature-spec =
     (λ c κs. tt)
     (λ c κs. tt)
     (λ c.
-      let c1 = c .before in let c2 = c1 .before in let c3 = c2 .before in
-      rw (← c3 .is-nan .ensures, ← c2 .is-nan2 .ensures, ← c1 .is-nan3 .ensures, c .if1 .taken))
+    let c1 = c .before in let c2 = c1 .before in let c3 = c2 .before in
+    rw (← c3 .is-nan .ensures, ← c2 .is-nan2 .ensures, ← c1 .is-nan3 .ensures, c .if1 .taken))
     (λ c.
-      let c1 = c .before in let c2 = c1 .before in let c3 = c2 .before in let c4 = c3 .before in
-      rw (← c4 .is-nan .ensures, ← c3 .is-nan2 .ensures, ← c2 .is-nan3 .ensures, c1 .if1 .left, c .if2 .taken))
+    let c1 = c .before in let c2 = c1 .before in let c3 = c2 .before in let c4 = c3 .before in
+    rw (← c4 .is-nan .ensures, ← c3 .is-nan2 .ensures, ← c2 .is-nan3 .ensures, c1 .if1 .left, c .if2 .taken))
     (λ c.
-      let c1 = c .before in let c2 = c1 .before in let c3 = c2 .before in let c4 = c3 .before in
-      rw (← c4 .is-nan .ensures, ← c3 .is-nan2 .ensures, ← c2 .is-nan3 .ensures, c1 .if1 .left, c .if2 .left)))
+    let c1 = c .before in let c2 = c1 .before in let c3 = c2 .before in let c4 = c3 .before in
+    rw (← c4 .is-nan .ensures, ← c3 .is-nan2 .ensures, ← c2 .is-nan3 .ensures, c1 .if1 .left, c .if2 .left)))

@@ -1,0 +1,18 @@
+-- What is returned follows from the tests and the calls on the way, in their order. Assumes nothing.
+use lib.Ieee.{ofBits}
+use Rattle.numbers.specs.Arithmetic.{decimal}
+use Rattle.measured.proofs.surfaced.measured_even.Statement.{statement}
+use Rattle.measured.proofs.surfaced.measured_even.Tie as tie
+
+pub measured-even-spec : {M : Type 1} → statement M
+unfolding decimal ofBits
+measured-even-spec =
+    tie.close
+    (tie.spec
+    (λ c κs. tt)
+    (λ c κs. tt)
+    (λ c κs. tt)
+    (λ c κs. tt)
+    (λ c.
+      let c1 = c .before in let c2 = c1 .before in let c3 = c2 .before in
+      rw (← c3 .even-of .ensures, ← c2 .ray-of .ensures, ← c1 .intersect-ray .ensures, ← c .sum-of .ensures)))

@@ -1,0 +1,14 @@
+-- What is returned follows from the tests and the calls on the way, in their order. Assumes nothing.
+use mathlib.Core.Path.{refl}
+use lib.Ieee.{ofBits}
+use Rattle.numbers.specs.Arithmetic.{decimal}
+use Rattle.measured.specs.Sums.{rayOf}
+use Rattle.measured.proofs.surfaced.ray_of.Statement.{statement}
+use Rattle.measured.proofs.surfaced.ray_of.Tie as tie
+
+pub ray-of-spec : {M : Type 1} → statement M
+unfolding rayOf decimal ofBits
+ray-of-spec =
+    tie.close
+    (tie.spec
+    (λ c. refl))

@@ -1,0 +1,20 @@
+-- What is returned follows from the tests and the calls on the way, in their order. Assumes nothing.
+use borrow.Author.Needs.{needs}
+use Rattle.surfaces.proofs.Refusals.{never-done}
+use lib.Ieee.{ofBits}
+use Rattle.numbers.specs.Arithmetic.{decimal}
+use Rattle.measured.specs.Sums.{sumVec}
+use Rattle.measured.proofs.surfaced.total.Statement.{statement}
+use Rattle.measured.proofs.surfaced.total.Tie as tie
+
+pub total-spec : {M : Type 1} → statement M
+unfolding sumVec decimal ofBits
+total-spec =
+    tie.close
+    (tie.spec
+    (λ c. search needs)
+    (λ c. search needs)
+    (λ c.
+      let c3 = c .before .before .before in
+      rw (c3 .d .given .1))
+    (λ c. rw (c .enum-told .given .1, never-done)))

@@ -6,3 +6,4 @@ mod Signs
 mod Values
 mod Floats
 pub mod Nearest
+mod Exceeds

@@ -193,7 +193,7 @@ same-bits : (m n : ℕ) (e d : ℤ) → units (fin false m e) ≡ units (fin fal
 unfolding units toBits
 same-bits m n e d h = ap (λ (u : ℕ). 0 + (size u - 53) * 2 ^ 52 + u / 2 ^ (size u - 53)) h
 
-same-units : (x y : Float) → AboveZero x → AboveZero y → units x ≡ units y → x ≡ y
+pub same-units : (x y : Float) → AboveZero x → AboveZero y → units x ≡ units y → x ≡ y
 same-units (fin false m e) (fin false n d) (h, p) (k, q) u = sym (ofBits-toBits binary64 (fin false m e) h) ∙ ap (ofBits binary64) (same-bits m n e d u) ∙ ofBits-toBits binary64 (fin false n d) k
 
 pub only-one : OnlyOne

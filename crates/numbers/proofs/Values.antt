@@ -29,16 +29,20 @@ units-of (fin s m e) a v = ap (λ (y : ℕ). y / down e) (v .1) ∙ mul-div-canc
 low-units : (b : ℕ) → b < 2 ^ 52 → patternUnits b ≡ b * 1
 low-units b h = let z : b / 2 ^ 52 - 1 ≡ 0 = omega arith in rw z (omega arith)
 
+-- A number whose pattern lies below infinity's is the pattern's units over 2 ^ 1074.
 module _ (x : Float) (h : T (fits binary64 x)) where
-  read : (q k : ℕ) → ofBits binary64 (toBits binary64 x) ≡ odd 53 false q k 1074 → units x ≡ q * 2 ^ k
-  read q k e = units-of x (q * 2 ^ k) (subst (λ (y : Float). HasValue y false (q * 2 ^ k) (2 ^ 1074)) (sym e ∙ ofBits-toBits binary64 x h) (odd-sign 53 false q k 1074))
+  read : (q k : ℕ) → ofBits binary64 (toBits binary64 x) ≡ odd 53 false q k 1074 → HasValue x false (q * 2 ^ k) (2 ^ 1074)
+  read q k e = subst (λ (y : Float). HasValue y false (q * 2 ^ k) (2 ^ 1074)) (sym e ∙ ofBits-toBits binary64 x h) (odd-sign 53 false q k 1074)
 
-  pub units-pattern : toBits binary64 x < 0x7ff0_0000_0000_0000 → units x ≡ patternUnits (toBits binary64 x)
-  units-pattern u = go (toBits binary64 x) u read (decLe (2 ^ 52) (toBits binary64 x))
+  pub value-pattern : toBits binary64 x < 0x7ff0_0000_0000_0000 → HasValue x false (patternUnits (toBits binary64 x)) (2 ^ 1074)
+  value-pattern u = go (toBits binary64 x) u read (decLe (2 ^ 52) (toBits binary64 x))
     where
-      go : (b : ℕ) → b < 0x7ff0_0000_0000_0000 → ((q k : ℕ) → ofBits binary64 b ≡ odd 53 false q k 1074 → units x ≡ q * 2 ^ k) → Dec (2 ^ 52 ≤ b) → units x ≡ patternUnits b
+      go : (b : ℕ) → b < 0x7ff0_0000_0000_0000 → ((q k : ℕ) → ofBits binary64 b ≡ odd 53 false q k 1074 → HasValue x false (q * 2 ^ k) (2 ^ 1074)) → Dec (2 ^ 52 ≤ b) → HasValue x false (patternUnits b) (2 ^ 1074)
       go b u r (yes l) = let e : b - (b / 2 ^ 52 - 1) * 2 ^ 52 ≡ 2 ^ 52 + b % 2 ^ 52 = omega arith in rw e (r (2 ^ 52 + b % 2 ^ 52) (b / 2 ^ 52 - 1) (normal b u l))
       go b u r (no l) = let t = lt-of-not-le l in rw (low-units b t) (r b 0 (subnormal b u t))
+
+  pub units-pattern : toBits binary64 x < 0x7ff0_0000_0000_0000 → units x ≡ patternUnits (toBits binary64 x)
+  units-pattern u = units-of x (patternUnits (toBits binary64 x)) (value-pattern u)
 
 -- The pattern of a number above zero is neither 0 nor as high as infinity's.
 module _ (m : ℕ) (e : ℤ) (h : T (fits binary64 (fin false (suc m) e))) where

@@ -2,6 +2,7 @@
 // anything of its caller.
 mod root;
 
+pub use root::root_exceeds;
 pub use root::sqrt;
 ghost use mathlib.Core.Path.{_≡_};
 ghost use lib.Ieee.{isNan};

@@ -6,6 +6,7 @@
 ghost use mathlib.Core.Path.{_≡_};
 ghost use mathlib.Core.Bool.{true};
 ghost use Prim.Native.Nat.{ℕ, _+_, _*_, _/_, _%_, _^_, _≤_, _<_};
+ghost use Rattle.numbers.specs.Arithmetic.{_<₆₄_};
 ghost use Rattle.numbers.specs.Sqrt.{root, rootUnits};
 ghost use Rattle.numbers.specs.Parts.{Near, Scale, patternUnits};
 
@@ -183,4 +184,15 @@ pub fn sqrt(x: f64) -> f64
         return scaled_root(s.m, s.k, s.guess);
     }
     if x < 0.0 { 0.0 / 0.0 } else { x }
+}
+
+// Whether the root of x is above y: seldom needs the root itself. Where it is, x is above the square of a y above 0, and rounding
+// keeps order, so x is not below y * y. It may equal y * y, where that has underflowed.
+pub fn root_exceeds(x: f64, y: f64) -> bool
+    ensures { λ r. ⌜ r ≡ (y <₆₄ root x) ⌝ }
+{
+    if (0.0 < y) & (x < y * y) {
+        return false;
+    }
+    y < sqrt(x)
 }

@@ -1,6 +1,7 @@
 -- Laws that several proofs use.
 pub mod Refusals
 pub mod Terms
+pub mod Again
 pub mod Shared
 pub mod Passes
 pub mod Unique

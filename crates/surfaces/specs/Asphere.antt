@@ -62,7 +62,7 @@ evenDepth c k a r =
     let r2 = r *₆₄ r in
     if not (finite r) || (r <₆₄ 0f) then noDepth 2 else
     after noDepths (baseRoot c k r2) (λ s.
-    gives (depths (baseSag c r2 s +₆₄ powerSum (terms a) r2 r2) s 0f))
+    gives (depths (baseSag c r2 s +₆₄ powerSum (terms a) r2 r2) s r 0f))
 
 unfoldable pub evenSlopeFrom : Float → Coefficients → Float → Float → Told Float
 evenSlopeFrom c a r s =

@@ -5,7 +5,7 @@ use lib.Ieee.Scale.{finite}
 use Rattle.numbers.specs.Arithmetic.{_+₆₄_, _-₆₄_, _*₆₄_, _/₆₄_, _<₆₄_, _≤₆₄_, if_then_else_, 0f, 1f, 2f, 1e-14, 1e-15}
 use Rattle.numbers.specs.Basic.{magnitude, larger}
 use Rattle.numbers.specs.Sqrt.{root}
-use Rattle.surfaces.specs.Types.{zeros, allFinite, rayFinite, meridians, noMeridians, bothFinite, noLanding, landingFinite}
+use Rattle.surfaces.specs.Types.{zeros, rootAgain, allFinite, rayFinite, meridians, noMeridians, bothFinite, noLanding, landingFinite}
 use Rattle.surfaces.specs.Told.{Told, Depths, plain, gives, refused, after, checked9, noNumber, noPair, noDirection, noCrossing, noBiconic, noToroid, depths, noDepths, noDepth, sagOf}
 use Rattle.surfaces.specs.Conic.{signOf}
 use Rattle.surfaces.specs.Newton.{Shape, newtonEnd}
@@ -30,7 +30,7 @@ biconicDepth cx kx cy ky x y =
     let num = numeratorOf cx cy x y in
     if not (finite x && finite y) then noDepth 2 else
     after noDepths (edgeRoot (biconicRadicand cx kx cy ky x y)) (λ s.
-    gives (depths (num /₆₄ (1f +₆₄ s)) s num))
+    gives (depths (num /₆₄ (1f +₆₄ s)) s num 0f))
 
 unfoldable pub onAxis : Float → Float → Bool
 onAxis x y = (magnitude x <₆₄ 1e-15) && (magnitude y <₆₄ 1e-15)
@@ -108,55 +108,54 @@ biconicCrossingAnswer s ray vertex =
 unfoldable pub biconicParaxial : BiconicSurface → Told Meridians
 biconicParaxial s = if not (biconicGood s) then noPair 2 else gives (meridians (s .cx) (s .cy))
 
--- the toroid's base curve in the y-z plane
-unfoldable pub baseCurveSag : Float → Float → Float → Told Float
-baseCurveSag cy ky y =
-    let y2 = y *₆₄ y in
-    after 0f (edgeRoot (1f -₆₄ (1f +₆₄ ky) *₆₄ cy *₆₄ cy *₆₄ y2)) (λ s.
-    gives ((cy *₆₄ y2) /₆₄ (1f +₆₄ s)))
+-- the toroid's base curve in the y-z plane: its radicand, and its sag from the root s
+unfoldable pub baseCurveRadicand : Float → Float → Float → Float
+baseCurveRadicand cy ky y = 1f -₆₄ (1f +₆₄ ky) *₆₄ cy *₆₄ cy *₆₄ (y *₆₄ y)
+
+unfoldable pub baseCurveSag : Float → Float → Float → Float
+baseCurveSag cy y s = (cy *₆₄ (y *₆₄ y)) /₆₄ (1f +₆₄ s)
 
 -- the circle rolled about it, whose radius at y is `term`
-unfoldable pub circleDepth : Float → Float → Float → Told Depths
-circleDepth rx x term =
+unfoldable pub circleDepth : Float → Float → Float → Float → Told Depths
+circleDepth rx x term base =
     after noDepths (edgeRoot (term *₆₄ term -₆₄ x *₆₄ x)) (λ s.
-    gives (depths (rx -₆₄ signOf rx *₆₄ s) s term))
+    gives (depths (rx -₆₄ signOf rx *₆₄ s) s term base))
 
 -- ToroidalSurface::sag, which has no test of x and y
 unfoldable pub toroidDepth : Float → Float → Float → Float → Float → Told Depths
-toroidDepth rx cy ky x y = after noDepths (baseCurveSag cy ky y) (λ zy. circleDepth rx x (rx -₆₄ zy))
+toroidDepth rx cy ky x y =
+    after noDepths (edgeRoot (baseCurveRadicand cy ky y)) (λ b.
+    circleDepth rx x (rx -₆₄ baseCurveSag cy y b) b)
 
--- its radicand groups otherwise than the sag's
+-- the base curve's slope: its radicand groups otherwise than the sag's
+unfoldable pub slopeRadicand : Float → Float → Float → Float
+slopeRadicand cy ky y = larger (1f -₆₄ (1f +₆₄ ky) *₆₄ cy *₆₄ cy *₆₄ y *₆₄ y) 0f
+
 unfoldable pub baseCurveSlope : Float → Float → Float → Float
-baseCurveSlope cy ky y =
-    let s = root (larger (1f -₆₄ (1f +₆₄ ky) *₆₄ cy *₆₄ cy *₆₄ y *₆₄ y) 0f) in
-    if 1e-14 <₆₄ s then (cy *₆₄ y) /₆₄ s else 0f
+baseCurveSlope cy y s = if 1e-14 <₆₄ s then (cy *₆₄ y) /₆₄ s else 0f
 
--- the slopes where the circle has the radius `term` and the root s
-unfoldable pub circleSlopesAt : Float → Float → Float → Float → Float → Float → Float → Meridians
-circleSlopesAt rx cy ky x y term s = meridians
-    (signOf rx *₆₄ x /₆₄ s)
-    (signOf rx *₆₄ (term /₆₄ s) *₆₄ baseCurveSlope cy ky y)
+-- the slopes where the circle has the radius `term` and the root s, and the base curve the slope d
+unfoldable pub circleSlopesAt : Float → Float → Float → Float → Float → Meridians
+circleSlopesAt rx x term s d = meridians (signOf rx *₆₄ x /₆₄ s) (signOf rx *₆₄ (term /₆₄ s) *₆₄ d)
 
 unfoldable pub circleSlopes : Float → Float → Float → Float → Float → Float → Told Meridians
 circleSlopes rx cy ky x y term =
     let radicand = term *₆₄ term -₆₄ x *₆₄ x in
     if radicand ≤₆₄ 1e-14 then noPair 5 else
-    gives (circleSlopesAt rx cy ky x y term (root radicand))
+    gives (circleSlopesAt rx x term (root radicand) (baseCurveSlope cy y (root (slopeRadicand cy ky y))))
 
 -- ToroidalSurface::derivatives
 unfoldable pub toroidSlopes : Float → Float → Float → Float → Float → Told Meridians
-toroidSlopes rx cy ky x y = after noMeridians (baseCurveSag cy ky y) (λ zy. circleSlopes rx cy ky x y (rx -₆₄ zy))
+toroidSlopes rx cy ky x y =
+    after noMeridians (edgeRoot (baseCurveRadicand cy ky y)) (λ b.
+    circleSlopes rx cy ky x y (rx -₆₄ baseCurveSag cy y b))
 
--- the root of a radicand, given that of its maximum with 0
-unfoldable pub rootAgain : Float → Float → Float
-rootAgain radicand s = if 0f <₆₄ radicand then s else root radicand
-
--- the slopes, given the radius and the root that the sag had
-unfoldable pub toroidSlopesFrom : Float → Float → Float → Float → Float → Float → Float → Told Meridians
-toroidSlopesFrom rx cy ky x y term s =
+-- the slopes, given the circle's radius and root and the base curve's root that the sag had
+unfoldable pub toroidSlopesFrom : Float → Float → Float → Float → Float → Float → Float → Float → Told Meridians
+toroidSlopesFrom rx cy ky x y term s b =
     let radicand = term *₆₄ term -₆₄ x *₆₄ x in
     if radicand ≤₆₄ 1e-14 then noPair 5 else
-    gives (circleSlopesAt rx cy ky x y term (rootAgain radicand s))
+    gives (circleSlopesAt rx x term (rootAgain radicand (larger radicand 0f) s) (baseCurveSlope cy y (rootAgain (slopeRadicand cy ky y) (larger (baseCurveRadicand cy ky y) 0f) b)))
 
 -- ToroidalSurface::normal
 unfoldable pub toroidNormal : Float → Float → Float → Float → Float → Told Vec3

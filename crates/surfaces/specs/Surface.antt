@@ -32,11 +32,11 @@ shapeOf (profile.Even c k) a semi = evenShape c k a semi
 shapeOf (profile.Biconic cx kx cy ky) a semi = biconicShape cx kx cy ky semi
 shapeOf (profile.Toroid rx cy ky) a semi = toroidShape rx cy ky semi
 
--- its slopes at a point, given the root and the other number that the sag there had
-unfoldable pub slopesFrom : Profile → Coefficients → Float → Vec3 → Float → Float → Told Meridians
-slopesFrom (profile.Even c k) a r p s part = evenSlopesFrom c a (p .x) (p .y) r s
-slopesFrom (profile.Biconic cx kx cy ky) a r p s part = biconicSlopesFrom cx kx cy ky (p .x) (p .y) part s
-slopesFrom (profile.Toroid rx cy ky) a r p s part = toroidSlopesFrom rx cy ky (p .x) (p .y) part s
+-- its slopes at a point, given what the sag there had
+unfoldable pub slopesFrom : Profile → Coefficients → Vec3 → Float → Float → Float → Told Meridians
+slopesFrom (profile.Even c k) a p s part base = evenSlopesFrom c a (p .x) (p .y) part s
+slopesFrom (profile.Biconic cx kx cy ky) a p s part base = biconicSlopesFrom cx kx cy ky (p .x) (p .y) part s
+slopesFrom (profile.Toroid rx cy ky) a p s part base = toroidSlopesFrom rx cy ky (p .x) (p .y) part s base
 
 abbrev pub conicOf : Surface → Float → Float → ConicSurface
 conicOf s c k = conicSurface (s .vertex) c k (s .semi)

@@ -170,23 +170,25 @@ toldEven n = record { line = verdictLine (n .verdict); value = n .surface }
 abbrev pub toldOdd : NewOdd → Told OddAsphere
 toldOdd n = record { line = verdictLine (n .verdict); value = n .surface }
 
--- a raw sag, with what the slopes at the same point need of it
+-- a raw sag, with what the slopes at the same point need of it: its root; an even asphere's r, a biconic's numerator or a toroid's circle; and the root of a
+-- toroid's base curve
 pub record Depths : Type 0 where
   pub sag : Float
   pub root : Float
   pub part : Float
+  pub base : Float
 
-abbrev pub depths : Float → Float → Float → Depths
-depths z s p = record { sag = z; root = s; part = p }
+abbrev pub depths : Float → Float → Float → Float → Depths
+depths z s p b = record { sag = z; root = s; part = p; base = b }
 
 abbrev pub noDepths : Depths
-noDepths = depths 0f 0f 0f
+noDepths = depths 0f 0f 0f 0f
 
 abbrev pub noDepth : ℕ → Told Depths
 noDepth n = refused noDepths (plain n)
 
 abbrev pub toldDepth : Depth → Told Depths
-toldDepth (depth.At z s p) = gives (depths z s p)
+toldDepth (depth.At z s p b) = gives (depths z s p b)
 toldDepth (depth.Refused e) = refused noDepths (lineOf e)
 
 unfoldable pub sagOf : Told Depths → Told Float

@@ -23,8 +23,8 @@ use crate::types::Ray;
 use crate::types::Vec3;
 use crate::types::coefficients_good;
 use crate::types::no_coefficients;
-use crate::types::radius;
 use crate::types::ray_finite;
+use crate::types::root_beside;
 use numbers::abs;
 use numbers::is_finite;
 use numbers::max;
@@ -44,9 +44,10 @@ pub struct NewEven {
     pub surface: EvenAsphere,
 }
 
-// A raw sag, with what the slopes at the same point need of it.
+// A raw sag, with what the slopes at the same point need of it: its root; an even asphere's r, a biconic's numerator or a toroid's
+// circle; and the root of a toroid's base curve.
 pub enum Depth {
-    At(f64, f64, f64),
+    At(f64, f64, f64, f64),
     Refused(Refusal),
 }
 
@@ -60,14 +61,24 @@ pub fn edge_root(radicand: f64) -> Number
     Number::Is(sqrt(max(radicand, 0.0)))
 }
 
-// The base's root, which is 1 where the base is flat.
-fn base_root(c: f64, k: f64, r2: f64) -> Number
+// The same, where `near` is a guess at the radicand that is known earlier.
+fn edge_root_beside(radicand: f64, near: f64) -> Number
+    ensures { λ r. ⌜ toldNumber r ≡ edgeRoot radicand ⌝ }
+{
+    if radicand < -1e-12 {
+        return Number::Refused(Refusal::GeometryOutsideAperture);
+    }
+    Number::Is(root_beside(max(radicand, 0.0), max(near, 0.0)))
+}
+
+// The base's root, which is 1 where the base is flat. `near` is a guess at r2, which shortens the wait and changes no answer.
+fn base_root(c: f64, k: f64, r2: f64, near: f64) -> Number
     ensures { λ r. ⌜ toldNumber r ≡ baseRoot c k r2 ⌝ }
 {
     if abs(c) < 1e-15 {
         return Number::Is(1.0);
     }
-    edge_root(1.0 - (1.0 + k) * c * c * r2)
+    edge_root_beside(1.0 - (1.0 + k) * c * c * r2, 1.0 - (1.0 + k) * c * c * near)
 }
 
 fn base_sag(c: f64, r2: f64, s: f64) -> f64
@@ -129,8 +140,8 @@ fn slope_sum(values: [f64; 8], n: usize, exponent: f64, power: f64, r2: f64) -> 
     sum
 }
 
-// The Rust's EvenAsphere::sag.
-pub fn even_depth(c: f64, k: f64, a: Coefficients, r: f64) -> Depth
+// The Rust's EvenAsphere::sag, with a guess at r * r.
+pub fn even_depth(c: f64, k: f64, a: Coefficients, r: f64, near: f64) -> Depth
     ensures { λ d. ⌜ toldDepth d ≡ evenDepth c k a r ⌝ }
 {
     if !is_finite(r) | (r < 0.0) {
@@ -138,11 +149,12 @@ pub fn even_depth(c: f64, k: f64, a: Coefficients, r: f64) -> Depth
     }
     let r2 = r * r;
     let values = a.values;
-    match base_root(c, k, r2) {
+    match base_root(c, k, r2, near) {
         Number::Is(s) => {
             Depth::At(
                 base_sag(c, r2, s) + power_sum(values, a.count, r2, r2),
                 s,
+                r,
                 0.0,
             )
         }
@@ -168,7 +180,7 @@ fn even_slope(c: f64, k: f64, a: Coefficients, r: f64) -> Number
     if !is_finite(r) | (r < 0.0) {
         return Number::Refused(Refusal::InvalidParameter);
     }
-    match base_root(c, k, r * r) {
+    match base_root(c, k, r * r, r * r) {
         Number::Is(s) => even_slope_from(c, a, r, s),
         Number::Refused(e) => Number::Refused(e),
     }
@@ -231,7 +243,7 @@ fn even_facing(dx: f64, dy: f64) -> Direction
 pub fn even_normal(c: f64, k: f64, a: Coefficients, x: f64, y: f64) -> Direction
     ensures { λ v. ⌜ toldDirection v ≡ evenNormal c k a x y ⌝ }
 {
-    let r = radius(x, y);
+    let r = sqrt(x * x + y * y);
     if r < 1e-15 {
         return Direction::To(Vec3 {
             x: 0.0,
@@ -290,7 +302,7 @@ impl EvenAsphere {
             return Sag::Refused(Refusal::InvalidParameter);
         }
         let a = self.coefficients;
-        checked_sag(sag_of(even_depth(self.curvature, self.conic, a, r)))
+        checked_sag(sag_of(even_depth(self.curvature, self.conic, a, r, r * r)))
     }
 
     pub fn radial_derivative(self, r: f64) -> Number
@@ -349,7 +361,7 @@ pub fn sag_of(d: Depth) -> Sag
     ensures { λ z. ⌜ toldSag z ≡ sagOf (toldDepth d) ⌝ }
 {
     match d {
-        Depth::At(z, _, _) => Sag::At(z),
+        Depth::At(z, _, _, _) => Sag::At(z),
         Depth::Refused(e) => Sag::Refused(e),
     }
 }
@@ -384,7 +396,7 @@ fn odd_sag(s: OddAsphere, r: f64) -> Sag
     let r2 = r * r;
     let even = s.even.values;
     let odd = s.odd.values;
-    match base_root(s.curvature, s.conic, r2) {
+    match base_root(s.curvature, s.conic, r2, r2) {
         Number::Is(root) => {
             Sag::At(
                 base_sag(s.curvature, r2, root)
@@ -413,7 +425,7 @@ fn odd_slope(s: OddAsphere, r: f64) -> Number
     let r2 = r * r;
     let even = s.even.values;
     let odd = s.odd.values;
-    match base_root(s.curvature, s.conic, r2) {
+    match base_root(s.curvature, s.conic, r2, r2) {
         Number::Is(root) => {
             Number::Is(
                 odd_base_slope(s.curvature, r, root)
@@ -443,7 +455,7 @@ fn odd_slopes(d: f64, x: f64, y: f64, r: f64) -> Meridians
 fn odd_normal(s: OddAsphere, x: f64, y: f64) -> Direction
     ensures { λ v. ⌜ toldDirection v ≡ oddNormal s x y ⌝ }
 {
-    let r = radius(x, y);
+    let r = sqrt(x * x + y * y);
     let odd = s.odd;
     if (r < 1e-15) & (abs(first_or_zero(odd)) < 1e-14) {
         return Direction::To(Vec3 {

@@ -2,7 +2,7 @@
 ghost use mathlib.Core.Path.{_≡_};
 ghost use Rattle.surfaces.specs.Told.{toldNumber, toldSag, toldPair, toldDirection, toldCrossing, toldDepth, toldBiconic, toldToroid};
 ghost use Rattle.surfaces.specs.Conic.{radiusOf};
-ghost use Rattle.surfaces.specs.Biconic.{numeratorOf, biconicRadicand, biconicDepth, onAxis, meridianSlope, biconicSlopesAt, biconicSlopesFrom, biconicSlopes, biconicNormal, biconicGood, newBiconic, biconicSagAnswer, biconicSlopesAnswer, biconicNormalAnswer, biconicCrossingAnswer, biconicParaxial, baseCurveSag, toroidDepth, baseCurveSlope, circleDepth, circleSlopesAt, circleSlopes, toroidSlopesFrom, toroidSlopes, toroidNormal, toroidGood, newToroid, toroidSagAnswer, toroidSlopesAnswer, toroidNormalAnswer, toroidCrossingAnswer, rootAgain, normalOf};
+ghost use Rattle.surfaces.specs.Biconic.{numeratorOf, biconicRadicand, biconicDepth, onAxis, meridianSlope, biconicSlopesAt, biconicSlopesFrom, biconicSlopes, biconicNormal, biconicGood, newBiconic, biconicSagAnswer, biconicSlopesAnswer, biconicNormalAnswer, biconicCrossingAnswer, biconicParaxial, baseCurveSag, toroidDepth, baseCurveSlope, circleDepth, circleSlopesAt, circleSlopes, toroidSlopesFrom, toroidSlopes, toroidNormal, toroidGood, newToroid, toroidSagAnswer, toroidSlopesAnswer, toroidNormalAnswer, toroidCrossingAnswer, normalOf, baseCurveRadicand, slopeRadicand};
 use crate::asphere::Depth;
 use crate::asphere::edge_root;
 use crate::asphere::facing;
@@ -26,6 +26,7 @@ use crate::types::Meridians;
 use crate::types::Ray;
 use crate::types::no_coefficients;
 use crate::types::ray_finite;
+use crate::types::root_again;
 use numbers::abs;
 use numbers::is_finite;
 use numbers::max;
@@ -65,7 +66,7 @@ pub fn biconic_depth(cx: f64, kx: f64, cy: f64, ky: f64, x: f64, y: f64) -> Dept
     }
     let num = numerator(cx, cy, x, y);
     match edge_root(biconic_radicand(cx, kx, cy, ky, x, y)) {
-        Number::Is(s) => Depth::At(num / (1.0 + s), s, num),
+        Number::Is(s) => Depth::At(num / (1.0 + s), s, num, 0.0),
         Number::Refused(e) => Depth::Refused(e),
     }
 }
@@ -252,22 +253,24 @@ pub enum NewToroid {
     Refused(Refusal),
 }
 
-fn base_curve_sag(cy: f64, ky: f64, y: f64) -> Number
-    ensures { λ z. ⌜ toldNumber z ≡ baseCurveSag cy ky y ⌝ }
+fn base_curve_radicand(cy: f64, ky: f64, y: f64) -> f64
+    ensures { λ r. ⌜ r ≡ baseCurveRadicand cy ky y ⌝ }
 {
-    let y2 = y * y;
-    match edge_root(1.0 - (1.0 + ky) * cy * cy * y2) {
-        Number::Is(s) => Number::Is((cy * y2) / (1.0 + s)),
-        Number::Refused(e) => Number::Refused(e),
-    }
+    1.0 - (1.0 + ky) * cy * cy * (y * y)
+}
+
+fn base_curve_sag(cy: f64, y: f64, s: f64) -> f64
+    ensures { λ z. ⌜ z ≡ baseCurveSag cy y s ⌝ }
+{
+    (cy * (y * y)) / (1.0 + s)
 }
 
 // The rolled circle's sag, from its radius `term` at y.
-fn circle_depth(rx: f64, x: f64, term: f64) -> Depth
-    ensures { λ d. ⌜ toldDepth d ≡ circleDepth rx x term ⌝ }
+fn circle_depth(rx: f64, x: f64, term: f64, base: f64) -> Depth
+    ensures { λ d. ⌜ toldDepth d ≡ circleDepth rx x term base ⌝ }
 {
     match edge_root(term * term - x * x) {
-        Number::Is(s) => Depth::At(rx - sign_of(rx) * s, s, term),
+        Number::Is(s) => Depth::At(rx - sign_of(rx) * s, s, term, base),
         Number::Refused(e) => Depth::Refused(e),
     }
 }
@@ -276,46 +279,60 @@ fn circle_depth(rx: f64, x: f64, term: f64) -> Depth
 pub fn toroid_depth(rx: f64, cy: f64, ky: f64, x: f64, y: f64) -> Depth
     ensures { λ d. ⌜ toldDepth d ≡ toroidDepth rx cy ky x y ⌝ }
 {
-    match base_curve_sag(cy, ky, y) {
-        Number::Is(zy) => circle_depth(rx, x, rx - zy),
+    match edge_root(base_curve_radicand(cy, ky, y)) {
+        Number::Is(b) => circle_depth(rx, x, rx - base_curve_sag(cy, y, b), b),
         Number::Refused(e) => Depth::Refused(e),
     }
 }
 
-fn base_curve_slope(cy: f64, ky: f64, y: f64) -> f64
-    ensures { λ d. ⌜ d ≡ baseCurveSlope cy ky y ⌝ }
+// The radicand of the base curve's slope, which groups otherwise than the sag's.
+fn slope_radicand(cy: f64, ky: f64, y: f64) -> f64
+    ensures { λ r. ⌜ r ≡ slopeRadicand cy ky y ⌝ }
 {
-    let s = sqrt(max(1.0 - (1.0 + ky) * cy * cy * y * y, 0.0));
+    max(1.0 - (1.0 + ky) * cy * cy * y * y, 0.0)
+}
+
+fn base_curve_slope(cy: f64, y: f64, s: f64) -> f64
+    ensures { λ d. ⌜ d ≡ baseCurveSlope cy y s ⌝ }
+{
     if s > 1e-14 { (cy * y) / s } else { 0.0 }
 }
 
-// The slopes where the rolled circle has the root s.
-fn circle_slopes_at(rx: f64, cy: f64, ky: f64, x: f64, y: f64, term: f64, s: f64) -> Meridians
-    ensures { λ m. ⌜ m ≡ circleSlopesAt rx cy ky x y term s ⌝ }
+// The slopes where the rolled circle has the root s and the base curve the slope d.
+fn circle_slopes_at(rx: f64, x: f64, term: f64, s: f64, d: f64) -> Meridians
+    ensures { λ m. ⌜ m ≡ circleSlopesAt rx x term s d ⌝ }
 {
     let sign = sign_of(rx);
     Meridians {
         x: sign * x / s,
-        y: sign * (term / s) * base_curve_slope(cy, ky, y),
+        y: sign * (term / s) * d,
     }
 }
 
-// The root of a radicand, given that of its maximum with 0.
-fn root_again(radicand: f64, s: f64) -> f64
-    ensures { λ r. ⌜ r ≡ rootAgain radicand s ⌝ }
-{
-    if 0.0 < radicand { s } else { sqrt(radicand) }
-}
-
-// The slopes of a Newton pass, from the circle's radius and root that the sag there had.
-pub fn toroid_slopes_from(rx: f64, cy: f64, ky: f64, x: f64, y: f64, term: f64, s: f64) -> Pair
-    ensures { λ m. ⌜ toldPair m ≡ toroidSlopesFrom rx cy ky x y term s ⌝ }
+// The slopes of a Newton pass, from the circle's radius, its root and the base curve's root that the sag there had.
+pub fn toroid_slopes_from(
+    rx: f64,
+    cy: f64,
+    ky: f64,
+    x: f64,
+    y: f64,
+    term: f64,
+    s: f64,
+    b: f64,
+) -> Pair
+    ensures { λ m. ⌜ toldPair m ≡ toroidSlopesFrom rx cy ky x y term s b ⌝ }
 {
     let radicand = term * term - x * x;
     if radicand <= 1e-14 {
         return Pair::Refused(Refusal::GeometryOutsideAperture);
     }
-    Pair::Both(circle_slopes_at(rx, cy, ky, x, y, term, root_again(radicand, s)))
+    let root = root_again(radicand, max(radicand, 0.0), s);
+    let base = root_again(
+        slope_radicand(cy, ky, y),
+        max(base_curve_radicand(cy, ky, y), 0.0),
+        b,
+    );
+    Pair::Both(circle_slopes_at(rx, x, term, root, base_curve_slope(cy, y, base)))
 }
 
 fn circle_slopes(rx: f64, cy: f64, ky: f64, x: f64, y: f64, term: f64) -> Pair
@@ -325,15 +342,16 @@ fn circle_slopes(rx: f64, cy: f64, ky: f64, x: f64, y: f64, term: f64) -> Pair
     if radicand <= 1e-14 {
         return Pair::Refused(Refusal::GeometryOutsideAperture);
     }
-    Pair::Both(circle_slopes_at(rx, cy, ky, x, y, term, sqrt(radicand)))
+    let d = base_curve_slope(cy, y, sqrt(slope_radicand(cy, ky, y)));
+    Pair::Both(circle_slopes_at(rx, x, term, sqrt(radicand), d))
 }
 
 // The Rust's ToroidalSurface::derivatives.
 fn toroid_slopes(rx: f64, cy: f64, ky: f64, x: f64, y: f64) -> Pair
     ensures { λ m. ⌜ toldPair m ≡ toroidSlopes rx cy ky x y ⌝ }
 {
-    match base_curve_sag(cy, ky, y) {
-        Number::Is(zy) => circle_slopes(rx, cy, ky, x, y, rx - zy),
+    match edge_root(base_curve_radicand(cy, ky, y)) {
+        Number::Is(b) => circle_slopes(rx, cy, ky, x, y, rx - base_curve_sag(cy, y, b)),
         Number::Refused(e) => Pair::Refused(e),
     }
 }

@@ -2,6 +2,7 @@
 ghost use mathlib.Core.Path.{_≡_};
 ghost use mathlib.Core.List.{[], _∷_};
 ghost use Rattle.numbers.specs.Arithmetic.{0f};
+ghost use Rattle.numbers.specs.Sqrt.{root};
 ghost use Rattle.surfaces.specs.Types.{noHit, hitFinite};
 ghost use Rattle.surfaces.specs.Told.{checked9, toldSag, toldDirection, toldCrossing, toldMeet, toldConic};
 ghost use Rattle.surfaces.specs.Conic.{fromRadius, fromCurvature, curvatureOf, withVertex, radiusOf, conicSag, conicSagAnswer, gradientNormal, conicNormal, conicNormalAnswer, conicFinite, landedWithin, planeCrossing, onSheet, listed, kept, firstRoot, secondRoot, ascending, firstOn, quadraticOf, signOf, curvedCrossing, conicCrossing, normalAt, hitAt, meetRule, meetAnswer};
@@ -19,13 +20,14 @@ use crate::types::all_finite;
 use crate::types::dot;
 use crate::types::over;
 use crate::types::point_at;
-use crate::types::radius;
 use crate::types::ray_finite;
+use crate::types::root_beside;
 use numbers::abs;
 use numbers::is_finite;
 use numbers::is_infinite;
 use numbers::is_nan;
 use numbers::max;
+use numbers::root_exceeds;
 use numbers::sqrt;
 
 // Rust's vertex_z, curvature, conic_constant and semi_diam_mm.
@@ -132,8 +134,8 @@ pub fn radius_of(c: f64) -> f64
     if abs(c) < 1e-15 { 1.0 / 0.0 } else { 1.0 / c }
 }
 
-// The Rust's conic_sag.
-fn raw_sag(r: f64, c: f64, k: f64) -> Sag
+// The Rust's conic_sag. `near` is a guess at r * r, which shortens the wait for the root and changes no answer.
+fn raw_sag(r: f64, c: f64, k: f64, near: f64) -> Sag
     ensures { λ s. ⌜ toldSag s ≡ conicSag r c k ⌝ }
 {
     if !(is_finite(r) & is_finite(c) & is_finite(k)) {
@@ -147,13 +149,14 @@ fn raw_sag(r: f64, c: f64, k: f64) -> Sag
     if radicand < 0.0 {
         return Sag::Refused(Refusal::GeometryOutsideAperture);
     }
-    Sag::At((c * r_sq) / (1.0 + sqrt(radicand)))
+    let root = root_beside(radicand, 1.0 - (1.0 + k) * c * c * near);
+    Sag::At((c * r_sq) / (1.0 + root))
 }
 
 pub fn conic_sag(r: f64, c: f64, k: f64) -> Sag
     ensures { λ s. ⌜ toldSag s ≡ conicSagAnswer r c k ⌝ }
 {
-    checked_sag(raw_sag(r, c, k))
+    checked_sag(raw_sag(r, c, k, r * r))
 }
 
 // The normal, without the test of the arguments.
@@ -204,12 +207,12 @@ pub fn conic_normal(p: Vec3, s: ConicSurface) -> Direction
     checked_direction(raw_normal(p, s))
 }
 
-// At t, unless r is beyond the semi-diameter.
-pub fn landed_within(t: f64, p: Vec3, r: f64, semi: f64) -> Crossing
-    ensures { λ x. ⌜ toldCrossing x ≡ landedWithin t p r semi ⌝ }
+// At t, unless r is beyond the semi-diameter. `sq` is what r is the root of.
+pub fn landed_within(t: f64, p: Vec3, sq: f64, semi: f64) -> Crossing
+    ensures { λ x. ⌜ toldCrossing x ≡ landedWithin t p (root sq) semi ⌝ }
 {
-    if r > semi {
-        Crossing::Refused(Refusal::RayVignetted(r, semi))
+    if root_exceeds(sq, semi) {
+        Crossing::Refused(Refusal::RayVignetted(sqrt(sq), semi))
     } else {
         Crossing::At(Landing { t, point: p })
     }
@@ -229,14 +232,14 @@ fn plane_crossing(ray: Ray, s: ConicSurface) -> Crossing
     }
     let t = max(raw, 0.0);
     let p = point_at(ray, t);
-    landed_within(t, p, radius(p.x, p.y), s.semi)
+    landed_within(t, p, p.x * p.x + p.y * p.y, s.semi)
 }
 
-// Whether a point at r from the axis lies on the sheet through the vertex.
-fn on_sheet(s: ConicSurface, p: Vec3, r: f64) -> bool
-    ensures { λ b. ⌜ b ≡ onSheet s p r ⌝ }
+// Whether a point lies on the sheet through the vertex.
+fn on_sheet(s: ConicSurface, p: Vec3, sq: f64) -> bool
+    ensures { λ b. ⌜ b ≡ onSheet s p (root sq) ⌝ }
 {
-    match raw_sag(r, s.curvature, s.conic) {
+    match raw_sag(sqrt(sq), s.curvature, s.conic, sq) {
         Sag::At(z) => abs(p.z - s.vertex - z) < 1e-4,
         Sag::Refused(_) => false,
     }
@@ -246,9 +249,9 @@ fn cross_one(ray: Ray, s: ConicSurface, t: f64) -> Crossing
     ensures { λ x. ⌜ toldCrossing x ≡ firstOn ray s (t ∷ []) ⌝ }
 {
     let p = point_at(ray, t);
-    let r = radius(p.x, p.y);
-    if on_sheet(s, p, r) {
-        landed_within(t, p, r, s.semi)
+    let sq = p.x * p.x + p.y * p.y;
+    if on_sheet(s, p, sq) {
+        landed_within(t, p, sq, s.semi)
     } else {
         Crossing::Refused(Refusal::RayMissedSurface)
     }
@@ -258,9 +261,9 @@ fn cross_two(ray: Ray, s: ConicSurface, t: f64, u: f64) -> Crossing
     ensures { λ x. ⌜ toldCrossing x ≡ firstOn ray s (t ∷ u ∷ []) ⌝ }
 {
     let p = point_at(ray, t);
-    let r = radius(p.x, p.y);
-    if on_sheet(s, p, r) {
-        landed_within(t, p, r, s.semi)
+    let sq = p.x * p.x + p.y * p.y;
+    if on_sheet(s, p, sq) {
+        landed_within(t, p, sq, s.semi)
     } else {
         cross_one(ray, s, u)
     }

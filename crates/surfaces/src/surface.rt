@@ -1,6 +1,7 @@
 // The kinds of surfaces together: Newton's method, and the two functions that a trace over any of them calls.
 ghost use mathlib.Core.Path.{_≡_};
 ghost use Rattle.numbers.specs.Arithmetic.{0f};
+ghost use Rattle.numbers.specs.Sqrt.{root};
 ghost use Rattle.surfaces.specs.Types.{noCoefficients};
 ghost use Rattle.surfaces.specs.Told.{toldPair, toldDirection, toldCrossing, toldDepth, toldPassed, toldEnd, toldTurned, noCrossing};
 ghost use Rattle.surfaces.specs.Newton.{arrivedAt, movedBy, passAt, vertexPlane, nextPass, limitedPass, newtonEnd};
@@ -32,8 +33,9 @@ use crate::types::Ray;
 use crate::types::Vec3;
 use crate::types::dot;
 use crate::types::point_at;
-use crate::types::radius;
 use numbers::abs;
+use numbers::root_exceeds;
+use numbers::sqrt;
 
 // A conic has c and k; an even asphere c and k, with coefficients beside; a biconic cx, kx, cy and ky; a toroid rx, cy and ky.
 pub enum Kind {
@@ -69,24 +71,25 @@ pub struct End {
     pub passes: u16,
 }
 
-fn depth(q: Profile, a: Coefficients, semi: f64, p: Vec3, r: f64) -> Depth
-    ensures { λ d. ⌜ toldDepth d ≡ shapeOf q a semi .sag r p ⌝ }
+// The sag at p, from what its distance from the axis is the root of.
+fn depth(q: Profile, a: Coefficients, semi: f64, p: Vec3, sq: f64) -> Depth
+    ensures { λ d. ⌜ toldDepth d ≡ shapeOf q a semi .sag (root sq) p ⌝ }
 {
     match q {
-        Profile::Even(c, k) => even_depth(c, k, a, r),
+        Profile::Even(c, k) => even_depth(c, k, a, sqrt(sq), sq),
         Profile::Biconic(cx, kx, cy, ky) => biconic_depth(cx, kx, cy, ky, p.x, p.y),
         Profile::Toroid(rx, cy, ky) => toroid_depth(rx, cy, ky, p.x, p.y),
     }
 }
 
-// The slopes at p, from the root and the other number that the sag there had.
-fn slopes_from(q: Profile, a: Coefficients, p: Vec3, r: f64, s: f64, part: f64) -> Pair
-    ensures { λ m. ⌜ toldPair m ≡ slopesFrom q a r p s part ⌝ }
+// The slopes at p, from what the sag there had.
+fn slopes_from(q: Profile, a: Coefficients, p: Vec3, s: f64, part: f64, base: f64) -> Pair
+    ensures { λ m. ⌜ toldPair m ≡ slopesFrom q a p s part base ⌝ }
 {
     match q {
-        Profile::Even(c, _) => even_slopes_from(c, a, p.x, p.y, r, s),
+        Profile::Even(c, _) => even_slopes_from(c, a, p.x, p.y, part, s),
         Profile::Biconic(cx, kx, cy, ky) => biconic_slopes_from(cx, kx, cy, ky, p.x, p.y, part, s),
-        Profile::Toroid(rx, cy, ky) => toroid_slopes_from(rx, cy, ky, p.x, p.y, part, s),
+        Profile::Toroid(rx, cy, ky) => toroid_slopes_from(rx, cy, ky, p.x, p.y, part, s, base),
     }
 }
 
@@ -117,7 +120,7 @@ fn arrived(checks: bool, semi: f64, ray: Ray, t: f64) -> Crossing
 {
     let p = point_at(ray, t);
     if checks {
-        landed_within(t, p, radius(p.x, p.y), semi)
+        landed_within(t, p, p.x * p.x + p.y * p.y, semi)
     } else {
         Crossing::At(Landing { t, point: p })
     }
@@ -150,17 +153,17 @@ fn pass_at(q: Profile, a: Coefficients, semi: f64, vertex: f64, ray: Ray, t: f64
     ensures { λ x. ⌜ toldPassed x ≡ passAt (shapeOf q a semi) vertex ray t ⌝ }
 {
     let p = point_at(ray, t);
-    let r = radius(p.x, p.y);
-    if r > semi * 1.5 {
+    let sq = p.x * p.x + p.y * p.y;
+    if root_exceeds(sq, semi * 1.5) {
         return missed();
     }
-    match depth(q, a, semi, p, r) {
-        Depth::At(z, s, part) => {
+    match depth(q, a, semi, p, sq) {
+        Depth::At(z, s, part, base) => {
             let f = p.z - vertex - z;
             if abs(f) < 1e-11 {
-                return Passed::Ended(landed_within(t, p, r, semi));
+                return Passed::Ended(landed_within(t, p, sq, semi));
             }
-            match slopes_from(q, a, p, r, s, part) {
+            match slopes_from(q, a, p, s, part, base) {
                 Pair::Both(m) => moved(checks_last(q), semi, ray, t, f, m),
                 Pair::Refused(_) => missed(),
             }

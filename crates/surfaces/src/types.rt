@@ -1,7 +1,8 @@
 // Vectors, rays and what a surface is made of, by value. Lengths are in millimetres.
 ghost use mathlib.Core.Path.{_≡_};
 ghost use lib.ListN.{take};
-ghost use Rattle.surfaces.specs.Types.{dotOf, overOf, allFinite, rayFinite, pointAt, distance, everyFinite, coefficientsGood, noCoefficients};
+ghost use Rattle.numbers.specs.Sqrt.{root};
+ghost use Rattle.surfaces.specs.Types.{dotOf, overOf, allFinite, rayFinite, pointAt, sameAbove0, rootAgain, everyFinite, coefficientsGood, noCoefficients};
 use numbers::is_finite;
 use numbers::sqrt;
 
@@ -81,11 +82,29 @@ pub fn point_at(ray: Ray, t: f64) -> Vec3
     }
 }
 
-// How far (x, y) is from the axis.
-pub fn radius(x: f64, y: f64) -> f64
-    ensures { λ r. ⌜ r ≡ distance x y ⌝ }
+// Whether two numbers are above zero and have one pattern. A NaN has no pattern to rely on.
+fn same(x: f64, y: f64) -> bool
+    ensures { λ r. ⌜ r ≡ sameAbove0 x y ⌝ }
 {
-    sqrt(x * x + y * y)
+    if (0.0 < x) & (0.0 < y) {
+        f64::to_bits(x) == f64::to_bits(y)
+    } else {
+        false
+    }
+}
+
+// The root of x, given that of y: the same where x is y.
+pub fn root_again(x: f64, y: f64, s: f64) -> f64
+    ensures { λ r. ⌜ r ≡ rootAgain x y s ⌝ }
+{
+    if same(x, y) { s } else { sqrt(x) }
+}
+
+// The root of x. Where y is the same number and known earlier, nobody waits for x.
+pub fn root_beside(x: f64, y: f64) -> f64
+    ensures { λ r. ⌜ r ≡ root x ⌝ }
+{
+    root_again(x, y, sqrt(y))
 }
 
 // Whether the first n values, 8 at most, are finite.

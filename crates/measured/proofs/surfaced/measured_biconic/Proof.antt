@@ -13,5 +13,5 @@ measured-biconic-spec =
     (λ c κs. tt)
     (λ c κs. tt)
     (λ c.
-      let c1 = c .before in let c2 = c1 .before in
-      rw (← c2 .ray-of .ensures, ← c1 .intersect-ray .ensures, ← c .sum-of .ensures)))
+    let c1 = c .before in let c2 = c1 .before in
+    rw (← c2 .ray-of .ensures, ← c1 .intersect-ray .ensures, ← c .sum-of .ensures)))

@@ -18,8 +18,8 @@ measured-conic-spec =
     (λ c. search needs)
     (λ c. search needs)
     (λ c.
-      let c10 = c .before .before .before .before .before .before .before .before .before .before in let c12 = c10 .before .before in let c13 = c12 .before in let c14 = c13 .before in
-      rw (← c14 .ray-of .ensures, ← c13 .conic-of .ensures, ← c12 .intersect-conic .ensures, c10 .h .given .1))
+    let c10 = c .before .before .before .before .before .before .before .before .before .before in let c12 = c10 .before .before in let c13 = c12 .before in let c14 = c13 .before in
+    rw (← c14 .ray-of .ensures, ← c13 .conic-of .ensures, ← c12 .intersect-conic .ensures, c10 .h .given .1))
     (λ c.
-      let c2 = c .before .before in let c3 = c2 .before in let c4 = c3 .before in
-      rw (← c4 .ray-of .ensures, ← c3 .conic-of .ensures, ← c2 .intersect-conic .ensures, c .enum-told .given .1, never-done)))
+    let c2 = c .before .before in let c3 = c2 .before in let c4 = c3 .before in
+    rw (← c4 .ray-of .ensures, ← c3 .conic-of .ensures, ← c2 .intersect-conic .ensures, c .enum-told .given .1, never-done)))

@@ -20,8 +20,8 @@ measured-conic-then-spec =
     (λ c κs. tt)
     (λ c. search needs)
     (λ c.
-      let c1 = c .before in let c5 = c1 .before .before .before .before in let c7 = c5 .before .before in let c8 = c7 .before in let c9 = c8 .before in
-      rw (← c9 .ray-of .ensures, ← c8 .conic-of .ensures, ← c7 .intersect-conic .ensures, c5 .h .given .1, ← c1 .snell-refract .ensures, ← c .total .ensures))
+    let c1 = c .before in let c5 = c1 .before .before .before .before in let c7 = c5 .before .before in let c8 = c7 .before in let c9 = c8 .before in
+    rw (← c9 .ray-of .ensures, ← c8 .conic-of .ensures, ← c7 .intersect-conic .ensures, c5 .h .given .1, ← c1 .snell-refract .ensures, ← c .total .ensures))
     (λ c.
-      let c2 = c .before .before in let c3 = c2 .before in let c4 = c3 .before in
-      rw (← c4 .ray-of .ensures, ← c3 .conic-of .ensures, ← c2 .intersect-conic .ensures, c .enum-told .given .1, never-done)))
+    let c2 = c .before .before in let c3 = c2 .before in let c4 = c3 .before in
+    rw (← c4 .ray-of .ensures, ← c3 .conic-of .ensures, ← c2 .intersect-conic .ensures, c .enum-told .given .1, never-done)))

@@ -14,5 +14,5 @@ measured-even-spec =
     (λ c κs. tt)
     (λ c κs. tt)
     (λ c.
-      let c1 = c .before in let c2 = c1 .before in let c3 = c2 .before in
-      rw (← c3 .even-of .ensures, ← c2 .ray-of .ensures, ← c1 .intersect-ray .ensures, ← c .sum-of .ensures)))
+    let c1 = c .before in let c2 = c1 .before in let c3 = c2 .before in
+    rw (← c3 .even-of .ensures, ← c2 .ray-of .ensures, ← c1 .intersect-ray .ensures, ← c .sum-of .ensures)))

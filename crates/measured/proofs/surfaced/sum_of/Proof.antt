@@ -15,6 +15,6 @@ sum-of-spec =
     (λ c. search needs)
     (λ c. search needs)
     (λ c.
-      let c6 = c .before .before .before .before .before .before in
-      rw (c6 .x .given .1))
+    let c6 = c .before .before .before .before .before .before in
+    rw (c6 .x .given .1))
     (λ c. rw (c .enum-told .given .1, never-done)))

@@ -15,6 +15,6 @@ total-spec =
     (λ c. search needs)
     (λ c. search needs)
     (λ c.
-      let c3 = c .before .before .before in
-      rw (c3 .d .given .1))
+    let c3 = c .before .before .before in
+    rw (c3 .d .given .1))
     (λ c. rw (c .enum-told .given .1, never-done)))

@@ -17,4 +17,4 @@ base-root-spec =
     (λ c κs. tt)
     (λ c.
     let c1 = c .before in let c2 = c1 .before in
-    rw (← c2 .abs .ensures, c1 .if1 .left, ← c .edge-root .ensures)))
+    rw (← c2 .abs .ensures, c1 .if1 .left, ← c .edge-root-beside .ensures)))

@@ -4,25 +4,26 @@ use Rattle.surfaces.proofs.Refusals.{never-done}
 use lib.Ieee.{ofBits}
 use Rattle.numbers.specs.Arithmetic.{decimal}
 use Rattle.surfaces.specs.Asphere.{evenNormal}
+use Rattle.surfaces.specs.Types.{distance}
 use Rattle.surfaces.proofs.asphere.even_normal.Statement.{statement}
 use Rattle.surfaces.proofs.asphere.even_normal.Tie as tie
 
 pub even-normal-spec : {M : Type 1} → statement M
-unfolding evenNormal decimal ofBits
+unfolding evenNormal distance decimal ofBits
 even-normal-spec =
     tie.close
     (tie.spec
     (λ c κs. tt)
     (λ c.
     let c1 = c .before in
-    rw (← c1 .radius .ensures, c .if1 .taken))
+    rw (← c1 .sqrt .ensures, c .if1 .taken))
     (λ c κs. tt)
     (λ c. search needs)
     (λ c κs. tt)
     (λ c. search needs)
     (λ c.
     let c2 = c .before .before in let c4 = c2 .before .before in let c5 = c4 .before in let c6 = c5 .before in
-    rw (← c6 .radius .ensures, c5 .if1 .left, ← c4 .even-slope .ensures, c2 .d .given .1, ← c .even-facing .ensures))
+    rw (← c6 .sqrt .ensures, c5 .if1 .left, ← c4 .even-slope .ensures, c2 .d .given .1, ← c .even-facing .ensures))
     (λ c.
     let c1 = c .before in let c3 = c1 .before .before in let c4 = c3 .before in let c5 = c4 .before in
-    rw (← c5 .radius .ensures, c4 .if1 .left, ← c3 .even-slope .ensures, c1 .e .given .1, never-done)))
+    rw (← c5 .sqrt .ensures, c4 .if1 .left, ← c3 .even-slope .ensures, c1 .e .given .1, never-done)))

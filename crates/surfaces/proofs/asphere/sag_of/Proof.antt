@@ -1,11 +1,13 @@
 -- What is returned follows from the tests and the calls on the way, in their order. Assumes nothing.
 use borrow.Author.Needs.{needs}
+use lib.Ieee.{ofBits}
+use Rattle.numbers.specs.Arithmetic.{decimal}
 use Rattle.surfaces.specs.Told.{sagOf}
 use Rattle.surfaces.proofs.asphere.sag_of.Statement.{statement}
 use Rattle.surfaces.proofs.asphere.sag_of.Tie as tie
 
 pub sag-of-spec : {M : Type 1} → statement M
-unfolding sagOf
+unfolding sagOf decimal ofBits
 sag-of-spec =
     tie.close
     (tie.spec

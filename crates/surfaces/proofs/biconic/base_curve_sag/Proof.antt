@@ -1,6 +1,5 @@
 -- What is returned follows from the tests and the calls on the way, in their order. Assumes nothing.
-use borrow.Author.Needs.{needs}
-use Rattle.surfaces.proofs.Refusals.{never-done}
+use mathlib.Core.Path.{refl}
 use lib.Ieee.{ofBits}
 use Rattle.numbers.specs.Arithmetic.{decimal}
 use Rattle.surfaces.specs.Biconic.{baseCurveSag}
@@ -12,12 +11,4 @@ unfolding baseCurveSag decimal ofBits
 base-curve-sag-spec =
     tie.close
     (tie.spec
-    (λ c κs. tt)
-    (λ c. search needs)
-    (λ c. search needs)
-    (λ c.
-    let c1 = c .before in let c3 = c1 .before .before in
-    rw (← c3 .edge-root .ensures, c1 .s .given .1))
-    (λ c.
-    let c1 = c .before in let c3 = c1 .before .before in
-    rw (← c3 .edge-root .ensures, c1 .e .given .1, never-done)))
+    (λ c. refl))

@@ -10,11 +10,5 @@ unfolding baseCurveSlope decimal ofBits
 base-curve-slope-spec =
     tie.close
     (tie.spec
-    (λ c κs. tt)
-    (λ c κs. tt)
-    (λ c.
-    let c1 = c .before in let c2 = c1 .before in
-    rw (← c2 .max .ensures, ← c1 .sqrt .ensures, c .if1 .taken))
-    (λ c.
-    let c1 = c .before in let c2 = c1 .before in
-    rw (← c2 .max .ensures, ← c1 .sqrt .ensures, c .if1 .left)))
+    (λ c. rw (c .if1 .taken))
+    (λ c. rw (c .if1 .left)))

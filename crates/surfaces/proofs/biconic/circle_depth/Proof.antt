@@ -1,12 +1,14 @@
 -- What is returned follows from the tests and the calls on the way, in their order. Assumes nothing.
 use borrow.Author.Needs.{needs}
 use Rattle.surfaces.proofs.Refusals.{never-done}
+use lib.Ieee.{ofBits}
+use Rattle.numbers.specs.Arithmetic.{decimal}
 use Rattle.surfaces.specs.Biconic.{circleDepth}
 use Rattle.surfaces.proofs.biconic.circle_depth.Statement.{statement}
 use Rattle.surfaces.proofs.biconic.circle_depth.Tie as tie
 
 pub circle-depth-spec : {M : Type 1} → statement M
-unfolding circleDepth
+unfolding circleDepth decimal ofBits
 circle-depth-spec =
     tie.close
     (tie.spec

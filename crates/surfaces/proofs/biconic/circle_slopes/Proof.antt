@@ -13,6 +13,9 @@ circle-slopes-spec =
     (λ c. rw (c .if1 .taken))
     (λ c κs. tt)
     (λ c κs. tt)
+    (λ c κs. tt)
+    (λ c κs. tt)
+    (λ c κs. tt)
     (λ c.
-    let c1 = c .before in let c2 = c1 .before in
-    rw (c2 .if1 .left, ← c1 .sqrt .ensures, ← c .circle-slopes-at .ensures)))
+    let c1 = c .before in let c2 = c1 .before in let c3 = c2 .before in let c4 = c3 .before in let c5 = c4 .before in
+    rw (c5 .if1 .left, ← c4 .slope-radicand .ensures, ← c3 .sqrt .ensures, ← c2 .base-curve-slope .ensures, ← c1 .sqrt2 .ensures, ← c .circle-slopes-at .ensures)))

@@ -1,22 +1,26 @@
 -- What is returned follows from the tests and the calls on the way, in their order. Assumes nothing.
 use borrow.Author.Needs.{needs}
 use Rattle.surfaces.proofs.Refusals.{never-done}
+use lib.Ieee.{ofBits}
+use Rattle.numbers.specs.Arithmetic.{decimal}
 use Rattle.surfaces.specs.Biconic.{toroidDepth}
 use Rattle.surfaces.proofs.biconic.toroid_depth.Statement.{statement}
 use Rattle.surfaces.proofs.biconic.toroid_depth.Tie as tie
 
 pub toroid-depth-spec : {M : Type 1} → statement M
-unfolding toroidDepth
+unfolding toroidDepth decimal ofBits
 toroid-depth-spec =
     tie.close
     (tie.spec
     (λ c κs. tt)
+    (λ c κs. tt)
     (λ c. search needs)
+    (λ c κs. tt)
     (λ c κs. tt)
     (λ c. search needs)
     (λ c.
-    let c2 = c .before .before in let c4 = c2 .before .before in
-    rw (← c4 .base-curve-sag .ensures, c2 .zy .given .1, ← c .circle-depth .ensures))
+    let c1 = c .before in let c3 = c1 .before .before in let c5 = c3 .before .before in let c6 = c5 .before in
+    rw (← c6 .base-curve-radicand .ensures, ← c5 .edge-root .ensures, c3 .b .given .1, ← c1 .base-curve-sag .ensures, ← c .circle-depth .ensures))
     (λ c.
-    let c1 = c .before in let c3 = c1 .before .before in
-    rw (← c3 .base-curve-sag .ensures, c1 .e .given .1, never-done)))
+    let c1 = c .before in let c3 = c1 .before .before in let c4 = c3 .before in
+    rw (← c4 .base-curve-radicand .ensures, ← c3 .edge-root .ensures, c1 .e .given .1, never-done)))

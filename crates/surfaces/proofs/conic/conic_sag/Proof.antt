@@ -1,10 +1,12 @@
 -- What is returned follows from the tests and the calls on the way, in their order. Assumes nothing.
+use lib.Ieee.{ofBits}
+use Rattle.numbers.specs.Arithmetic.{decimal}
 use Rattle.surfaces.specs.Conic.{conicSagAnswer}
 use Rattle.surfaces.proofs.conic.conic_sag.Statement.{statement}
 use Rattle.surfaces.proofs.conic.conic_sag.Tie as tie
 
 pub conic-sag-spec : {M : Type 1} → statement M
-unfolding conicSagAnswer
+unfolding conicSagAnswer decimal ofBits
 conic-sag-spec =
     tie.close
     (tie.spec

@@ -1,20 +1,22 @@
 -- What is returned follows from the tests and the calls on the way, in their order. Assumes nothing.
+use lib.Ieee.{ofBits}
+use Rattle.numbers.specs.Arithmetic.{decimal}
 use Rattle.surfaces.specs.Conic.{firstOn}
+use Rattle.surfaces.specs.Types.{distance}
 use Rattle.surfaces.proofs.conic.cross_one.Statement.{statement}
 use Rattle.surfaces.proofs.conic.cross_one.Tie as tie
 
 pub cross-one-spec : {M : Type 1} → statement M
-unfolding firstOn
+unfolding firstOn distance decimal ofBits
 cross-one-spec =
     tie.close
     (tie.spec
     (λ c κs. tt)
     (λ c κs. tt)
     (λ c κs. tt)
-    (λ c κs. tt)
     (λ c.
-    let c1 = c .before in let c2 = c1 .before in let c3 = c2 .before in let c4 = c3 .before in
-    rw (← c4 .point-at .ensures, ← c3 .radius .ensures, ← c2 .on-sheet .ensures, c1 .if1 .taken, ← c .landed-within .ensures))
+    let c1 = c .before in let c2 = c1 .before in let c5 = c2 .before .before .before in
+    rw (← c5 .point-at .ensures, ← c2 .on-sheet .ensures, c1 .if1 .taken, ← c .landed-within .ensures))
     (λ c.
-    let c1 = c .before in let c2 = c1 .before in let c3 = c2 .before in
-    rw (← c3 .point-at .ensures, ← c2 .radius .ensures, ← c1 .on-sheet .ensures, c .if1 .left)))
+    let c1 = c .before in let c4 = c1 .before .before .before in
+    rw (← c4 .point-at .ensures, ← c1 .on-sheet .ensures, c .if1 .left)))

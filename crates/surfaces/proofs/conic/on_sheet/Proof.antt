@@ -13,12 +13,13 @@ on-sheet-spec =
     tie.close
     (tie.spec
     (λ c κs. tt)
+    (λ c κs. tt)
     (λ c. search needs)
     (λ c κs. tt)
     (λ c. search needs)
     (λ c.
-    let c4 = c .before .before .before .before in let c6 = c4 .before .before in
-    rw (← c6 .raw-sag .ensures, c4 .z .given .1, ← c .abs .ensures))
+    let c4 = c .before .before .before .before in let c6 = c4 .before .before in let c7 = c6 .before in
+    rw (← c7 .sqrt .ensures, ← c6 .raw-sag .ensures, c4 .z .given .1, ← c .abs .ensures))
     (λ c.
-    let c2 = c .before .before in
-    rw (← c2 .raw-sag .ensures, c .enum-told .given .1, never-done)))
+    let c2 = c .before .before in let c3 = c2 .before in
+    rw (← c3 .sqrt .ensures, ← c2 .raw-sag .ensures, c .enum-told .given .1, never-done)))

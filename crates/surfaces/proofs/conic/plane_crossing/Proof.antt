@@ -2,11 +2,12 @@
 use lib.Ieee.{ofBits}
 use Rattle.numbers.specs.Arithmetic.{decimal}
 use Rattle.surfaces.specs.Conic.{planeCrossing}
+use Rattle.surfaces.specs.Types.{distance}
 use Rattle.surfaces.proofs.conic.plane_crossing.Statement.{statement}
 use Rattle.surfaces.proofs.conic.plane_crossing.Tie as tie
 
 pub plane-crossing-spec : {M : Type 1} → statement M
-unfolding planeCrossing decimal ofBits
+unfolding planeCrossing distance decimal ofBits
 plane-crossing-spec =
     tie.close
     (tie.spec
@@ -20,7 +21,6 @@ plane-crossing-spec =
     (λ c κs. tt)
     (λ c κs. tt)
     (λ c κs. tt)
-    (λ c κs. tt)
     (λ c.
-    let c1 = c .before in let c2 = c1 .before in let c3 = c2 .before in let c4 = c3 .before in let c5 = c4 .before in let c6 = c5 .before in
-    rw (← c6 .abs .ensures, c5 .if1 .left, c4 .if2 .left, ← c3 .max .ensures, ← c2 .point-at .ensures, ← c1 .radius .ensures, ← c .landed-within .ensures)))
+    let c3 = c .before .before .before in let c4 = c3 .before in let c5 = c4 .before in let c6 = c5 .before in let c7 = c6 .before in
+    rw (← c7 .abs .ensures, c6 .if1 .left, c5 .if2 .left, ← c4 .max .ensures, ← c3 .point-at .ensures, ← c .landed-within .ensures)))

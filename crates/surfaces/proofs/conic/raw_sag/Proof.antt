@@ -27,4 +27,4 @@ raw-sag-spec =
     (λ c κs. tt)
     (λ c.
     let c1 = c .before in let c2 = c1 .before in let c3 = c2 .before in let c4 = c3 .before in let c5 = c4 .before in let c6 = c5 .before in let c7 = c6 .before in let c8 = c7 .before in
-    rw (← c8 .is-finite .ensures, ← c7 .is-finite2 .ensures, ← c6 .is-finite3 .ensures, c5 .if1 .left, ← c4 .abs .ensures, ← c3 .abs2 .ensures, c2 .if2 .left, c1 .if3 .left, ← c .sqrt .ensures)))
+    rw (← c8 .is-finite .ensures, ← c7 .is-finite2 .ensures, ← c6 .is-finite3 .ensures, c5 .if1 .left, ← c4 .abs .ensures, ← c3 .abs2 .ensures, c2 .if2 .left, c1 .if3 .left, ← c .root-beside .ensures)))

@@ -1,21 +1,25 @@
 -- What is returned follows from the tests and the calls on the way, in their order. Assumes nothing.
 use borrow.Author.Needs.{needs}
+use lib.Ieee.{ofBits}
+use Rattle.numbers.specs.Arithmetic.{decimal}
 use Rattle.surfaces.proofs.surface.depth.Statement.{statement}
 use Rattle.surfaces.proofs.surface.depth.Tie as tie
 
 pub depth-spec : {M : Type 1} → statement M
+unfolding decimal ofBits
 depth-spec =
     tie.close
     (tie.spec
     (λ c. search needs)
+    (λ c κs. tt)
     (λ c κs. tt)
     (λ c. search needs)
     (λ c κs. tt)
     (λ c. search needs)
     (λ c κs. tt)
     (λ c.
-    let c2 = c .before .before in
-    rw (c2 .q .given .1, ← c .even-depth .ensures))
+    let c1 = c .before in let c3 = c1 .before .before in
+    rw (c3 .q .given .1, ← c1 .sqrt .ensures, ← c .even-depth .ensures))
     (λ c.
     let c2 = c .before .before in
     rw (c2 .q2 .given .1, ← c .biconic-depth .ensures))

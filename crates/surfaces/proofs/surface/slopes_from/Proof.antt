@@ -1,11 +1,13 @@
 -- What is returned follows from the tests and the calls on the way, in their order. Assumes nothing.
 use borrow.Author.Needs.{needs}
+use lib.Ieee.{ofBits}
+use Rattle.numbers.specs.Arithmetic.{decimal}
 use Rattle.surfaces.specs.Surface.{slopesFrom}
 use Rattle.surfaces.proofs.surface.slopes_from.Statement.{statement}
 use Rattle.surfaces.proofs.surface.slopes_from.Tie as tie
 
 pub slopes-from-spec : {M : Type 1} → statement M
-unfolding slopesFrom
+unfolding slopesFrom decimal ofBits
 slopes-from-spec =
     tie.close
     (tie.spec

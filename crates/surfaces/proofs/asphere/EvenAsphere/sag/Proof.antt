@@ -1,10 +1,12 @@
 -- What is returned follows from the tests and the calls on the way, in their order. Assumes nothing.
+use lib.Ieee.{ofBits}
+use Rattle.numbers.specs.Arithmetic.{decimal}
 use Rattle.surfaces.specs.Asphere.{evenSagAnswer}
 use Rattle.surfaces.proofs.asphere.EvenAsphere.sag.Statement.{statement}
 use Rattle.surfaces.proofs.asphere.EvenAsphere.sag.Tie as tie
 
 pub sag-spec : {M : Type 1} → statement M
-unfolding evenSagAnswer
+unfolding evenSagAnswer decimal ofBits
 sag-spec =
     tie.close
     (tie.spec

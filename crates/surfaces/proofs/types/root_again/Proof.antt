@@ -1,0 +1,20 @@
+-- What is returned follows from the tests and the calls on the way, in their order. Assumes nothing.
+use lib.Ieee.{ofBits}
+use Rattle.numbers.specs.Arithmetic.{decimal}
+use Rattle.surfaces.specs.Types.{rootAgain}
+use Rattle.surfaces.proofs.types.root_again.Statement.{statement}
+use Rattle.surfaces.proofs.types.root_again.Tie as tie
+
+pub root-again-spec : {M : Type 1} → statement M
+unfolding rootAgain decimal ofBits
+root-again-spec =
+    tie.close
+    (tie.spec
+    (λ c κs. tt)
+    (λ c κs. tt)
+    (λ c.
+      let c1 = c .before in
+      rw (← c1 .same .ensures, c .if1 .taken))
+    (λ c.
+      let c1 = c .before in let c2 = c1 .before in
+      rw (← c2 .same .ensures, c1 .if1 .left, ← c .sqrt .ensures)))

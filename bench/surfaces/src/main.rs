@@ -2,7 +2,7 @@
 //!
 //! A row goes through RAYS rays, each call waiting for the last answer, as in a trace; then without waiting. The two sides take turns,
 //! PASSES times, and the least time of each counts. Both sides get the ray by its six numbers and hand back the sum of their answer's
-//! numbers, which have to be the same bits.
+//! numbers, which have to be the same bits. A word on the command line is the name of the one row wanted.
 
 use std::hint::black_box;
 use std::time::Instant;
@@ -76,6 +76,9 @@ fn rushing(f: &dyn Fn(&Numbers) -> f64, rays: &[Numbers]) -> f64 {
 }
 
 fn row(name: &str, rays: &[Numbers], ours: &dyn Fn(&Numbers) -> f64, rust: &dyn Fn(&Numbers) -> f64) {
+    if std::env::args().nth(1).is_some_and(|wanted| wanted != name) {
+        return;
+    }
     let hits = rays.iter().filter(|r| {
         assert_eq!(ours(r).to_bits(), rust(r).to_bits(), "{name}: other numbers at {r:?}");
         ours(r) != 0.0

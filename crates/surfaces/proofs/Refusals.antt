@@ -2,12 +2,9 @@
 use mathlib.Core.Path.{_≡_, refl}
 use mathlib.Core.Bool.{false}
 use lib.Dec.{eqb}
-use Rattle.surfaces.specs.Told.{lineOf, toldCrossing}
-use Rattle.surfaces.specs.Newton.{going}
+use Rattle.surfaces.specs.Told.{lineOf}
 use Rattle.surfaces.specs.declared.refusal.Refusal.{Refusal}
 use Rattle.surfaces.specs.declared.refusal.Refusal.the-variants.{InvalidParameter, InvalidSurface, NumericalSingularity, GeometryOutsideAperture, RayMissedSurface, RayVignetted, TotalInternalReflection, NotFinite}
-use Rattle.surfaces.specs.declared.refusal.Crossing.{Crossing}
-use Rattle.surfaces.specs.declared.refusal.Crossing.the-variants.{At, Refused}
 
 pub never-done : (e : Refusal) → eqb (lineOf e .number) 1 ≡ false
 never-done InvalidParameter = refl
@@ -19,7 +16,7 @@ never-done (RayVignetted r l) = refl
 never-done TotalInternalReflection = refl
 never-done NotFinite = refl
 
-never-going : (e : Refusal) → eqb (lineOf e .number) 0 ≡ false
+pub never-going : (e : Refusal) → eqb (lineOf e .number) 0 ≡ false
 never-going InvalidParameter = refl
 never-going InvalidSurface = refl
 never-going NumericalSingularity = refl
@@ -28,8 +25,3 @@ never-going RayMissedSurface = refl
 never-going (RayVignetted r l) = refl
 never-going TotalInternalReflection = refl
 never-going NotFinite = refl
-
--- so that no crossing is unfinished
-pub has-ended : (x : Crossing) → going (toldCrossing x) ≡ false
-has-ended (At l) = refl
-has-ended (Refused e) = never-going e

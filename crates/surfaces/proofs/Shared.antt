@@ -79,9 +79,16 @@ module _ (z s w b : Float) where
       let radicand = term *₆₄ term -₆₄ x *₆₄ x in
       let f = followed base (λ d. circleDepth rx x (rx -₆₄ baseCurveSag cy y d) d) noDepths (depths z s w b) (done base) refl h in
       let g = rooted (edgeRoot radicand) (λ d. rx -₆₄ signOf rx *₆₄ d) term (base .value) (f .gave) in
-      rw (f .goes noMeridians (λ d. circleSlopes rx cy ky x y (rx -₆₄ baseCurveSag cy y d)), ← g .2, ← g .1, ← g .3,
-        edge-root radicand (g .0 .was), root-again radicand (larger radicand 0f) (sub-fits binary64 _ _) (larger-fits radicand (sub-fits binary64 _ _)),
-        edge-root (baseCurveRadicand cy ky y) (f .was), slope-again cy ky y)
+      rw (
+        f .goes noMeridians (λ d. circleSlopes rx cy ky x y (rx -₆₄ baseCurveSag cy y d)),
+        ← g .2,
+        ← g .1,
+        ← g .3,
+        edge-root radicand (g .0 .was),
+        root-again radicand (larger radicand 0f) (sub-fits binary64 _ _) (larger-fits radicand (sub-fits binary64 _ _)),
+        edge-root (baseCurveRadicand cy ky y) (f .was),
+        slope-again cy ky y,
+      )
 
   pub shared : (q : Profile) (a : Coefficients) (semi r : Float) (p : Vec3) → shapeOf q a semi .sag r p ≡ gives (depths z s w b) → shapeOf q a semi .slopes r p ≡ slopesFrom q a p s w b
   unfolding slopesFrom

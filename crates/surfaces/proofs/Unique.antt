@@ -13,7 +13,6 @@ use Rattle.surfaces.specs.declared.refusal.Number.the-variants as number
 use Rattle.surfaces.specs.declared.refusal.Sag.the-variants as sag
 use Rattle.surfaces.specs.declared.refusal.Pair.the-variants as pair
 use Rattle.surfaces.specs.declared.refusal.Direction.the-variants as direction
-use Rattle.surfaces.specs.declared.refusal.Crossing.{Crossing}
 use Rattle.surfaces.specs.declared.refusal.Crossing.the-variants as crossing
 use Rattle.surfaces.specs.declared.conic.NewConic.the-variants as new-conic
 use Rattle.surfaces.specs.declared.conic.Meet.the-variants as meet
@@ -22,7 +21,7 @@ use Rattle.surfaces.specs.declared.biconic.NewToroid.the-variants as new
 use Rattle.surfaces.specs.declared.surface.Passed.{Passed}
 use Rattle.surfaces.specs.declared.surface.Passed.the-variants as passed
 use Rattle.surfaces.specs.declared.surface.Turned.the-variants as turned
-use Rattle.surfaces.proofs.Refusals.{never-done, has-ended}
+use Rattle.surfaces.proofs.Refusals.{never-done, never-going}
 
 -- a function with a way back is one to one
 back-again : {E T : Type 0} (told : E → T) (back : T → E) → ((x : E) → back (told x) ≡ x) → OneToOne told
@@ -61,17 +60,14 @@ unfolding verdictOf
 same-verdict verdict.Accepted = refl
 same-verdict (verdict.Refused e) = rw (never-done, same)
 
-same-crossing : (x : Crossing) → answerOf crossing.At crossing.Refused (toldCrossing x) ≡ x
-same-crossing (crossing.At l) = refl
-same-crossing (crossing.Refused e) = rw (never-done, same)
-
 passedOf : Told Landing → Passed
-passedOf t = if going t then passed.Again (t .value .t) else passed.Ended (answerOf crossing.At crossing.Refused t)
+passedOf t = if going t then passed.Again (t .value .t) else answerOf passed.Hit passed.Refused t
 
 same-passed : (x : Passed) → passedOf (toldPassed x) ≡ x
 unfolding passedOf
 same-passed (passed.Again t) = refl
-same-passed (passed.Ended x) = rw (has-ended, same-crossing)
+same-passed (passed.Hit l) = refl
+same-passed (passed.Refused e) = rw (never-going, never-done, same)
 
 pub told-one-to-one : ToldOneToOne
 told-one-to-one = record {
@@ -79,7 +75,7 @@ told-one-to-one = record {
   sag = back-again toldSag (answerOf sag.At sag.Refused) (elim [ sag.At z ↦ refl | sag.Refused e ↦ rw (never-done, same) ]);
   pair = back-again toldPair (answerOf pair.Both pair.Refused) (elim [ pair.Both m ↦ refl | pair.Refused e ↦ rw (never-done, same) ]);
   direction = back-again toldDirection (answerOf direction.To direction.Refused) (elim [ direction.To v ↦ refl | direction.Refused e ↦ rw (never-done, same) ]);
-  crossing = back-again toldCrossing (answerOf crossing.At crossing.Refused) same-crossing;
+  crossing = back-again toldCrossing (answerOf crossing.At crossing.Refused) (elim [ crossing.At l ↦ refl | crossing.Refused e ↦ rw (never-done, same) ]);
   meet = back-again toldMeet (answerOf meet.Hit meet.Refused) (elim [ meet.Hit h ↦ refl | meet.Refused e ↦ rw (never-done, same) ]);
   conic = back-again toldConic (answerOf new-conic.Made new-conic.Refused) (elim [ new-conic.Made s ↦ refl | new-conic.Refused e ↦ rw (never-done, same) ]);
   even = back-again toldEven (λ t. record { verdict = verdictOf (t .line); surface = t .value }) (λ n. rw (same-verdict (n .verdict)));

@@ -199,7 +199,8 @@ abbrev pub again : Float → Told Landing
 again t = record { line = plain 0; value = landing t zeros }
 
 abbrev pub toldPassed : Passed → Told Landing
-toldPassed (passed.Ended x) = toldCrossing x
+toldPassed (passed.Hit l) = gives l
+toldPassed (passed.Refused e) = refused noLanding (lineOf e)
 toldPassed (passed.Again t) = again t
 
 -- an end, and the passes that it took

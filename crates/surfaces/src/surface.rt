@@ -59,9 +59,10 @@ pub enum Profile {
     Toroid(f64, f64, f64),
 }
 
-// What a pass comes to: an end, or the t of the next pass.
+// What a pass comes to: a hit, a refusal, or the t of the next pass.
 pub enum Passed {
-    Ended(Crossing),
+    Hit(Landing),
+    Refused(Refusal),
     Again(f64),
 }
 
@@ -114,6 +115,15 @@ fn limit(q: Profile) -> u16
     }
 }
 
+fn ended(x: Crossing) -> Passed
+    ensures { λ r. ⌜ toldPassed r ≡ toldCrossing x ⌝ }
+{
+    match x {
+        Crossing::At(l) => Passed::Hit(l),
+        Crossing::Refused(e) => Passed::Refused(e),
+    }
+}
+
 // Where the move was small.
 fn arrived(checks: bool, semi: f64, ray: Ray, t: f64) -> Crossing
     ensures { λ x. ⌜ toldCrossing x ≡ arrivedAt checks semi ray t ⌝ }
@@ -133,11 +143,11 @@ fn moved(checks: bool, semi: f64, ray: Ray, t: f64, f: f64, m: Meridians) -> Pas
     let d = ray.direction;
     let slope = d.z - (m.x * d.x + m.y * d.y);
     if abs(slope) < 1e-15 {
-        return Passed::Ended(Crossing::Refused(Refusal::NumericalSingularity));
+        return Passed::Refused(Refusal::NumericalSingularity);
     }
     let delta = f / slope;
     if abs(delta) < 1e-12 {
-        return Passed::Ended(arrived(checks, semi, ray, t - delta));
+        return ended(arrived(checks, semi, ray, t - delta));
     }
     Passed::Again(t - delta)
 }
@@ -145,7 +155,7 @@ fn moved(checks: bool, semi: f64, ray: Ray, t: f64, f: f64, m: Meridians) -> Pas
 fn missed() -> Passed
     ensures { λ x. ⌜ toldPassed x ≡ noCrossing 6 ⌝ }
 {
-    Passed::Ended(Crossing::Refused(Refusal::RayMissedSurface))
+    Passed::Refused(Refusal::RayMissedSurface)
 }
 
 // A pass from t.
@@ -161,7 +171,7 @@ fn pass_at(q: Profile, a: Coefficients, semi: f64, vertex: f64, ray: Ray, t: f64
         Depth::At(z, s, part, base) => {
             let f = p.z - vertex - z;
             if abs(f) < 1e-11 {
-                return Passed::Ended(landed_within(t, p, sq, semi));
+                return ended(landed_within(t, p, sq, semi));
             }
             match slopes_from(q, a, p, s, part, base) {
                 Pair::Both(m) => moved(checks_last(q), semi, ray, t, f, m),
@@ -222,7 +232,8 @@ fn limited_pass(
                 x
             }
         }
-        Passed::Ended(_) => x,
+        Passed::Hit(_) => x,
+        Passed::Refused(_) => x,
     }
 }
 
@@ -238,8 +249,11 @@ pub fn newton(q: Profile, a: Coefficients, semi: f64, vertex: f64, ray: Ray) -> 
                 t = u;
                 made += 1;
             }
-            Passed::Ended(x) => {
-                break x;
+            Passed::Hit(l) => {
+                break Crossing::At(l);
+            }
+            Passed::Refused(e) => {
+                break Crossing::Refused(e);
             }
         }
     };
@@ -267,7 +281,7 @@ pub fn pass(s: Surface, ray: Ray, made: u16, t: f64) -> Passed
     let a = s.coefficients;
     let kind = s.kind;
     match kind {
-        Kind::Conic(c, k) => Passed::Ended(crossing(ray, conic_of(s, c, k))),
+        Kind::Conic(c, k) => ended(crossing(ray, conic_of(s, c, k))),
         Kind::Even(c, k) => limited_pass(Profile::Even(c, k), a, s.semi, s.vertex, ray, made, t),
         Kind::Biconic(cx, kx, cy, ky) => limited_pass(
             Profile::Biconic(cx, kx, cy, ky),

@@ -1,6 +1,7 @@
 -- What is to come from here is what was to come from the start. Assumes nothing.
 use Prim.Native.Nat.{suc, _-_, _<_, _≤_}
 use mathlib.Core.Path.{_≡_, refl, sym, ap, _∙_}
+use mathlib.Core.Logic.{⊎-elim}
 use native.Mathlib.Omega.{arith}
 use native.Mathlib.Numerals.{add-one}
 use borrow.Author.Needs.{needs}
@@ -13,7 +14,7 @@ use Rattle.surfaces.specs.declared.surface.Profile.{Profile}
 use Rattle.surfaces.specs.declared.surface.Profile.the-variants.{Even, Biconic, Toroid}
 use Rattle.surfaces.specs.declared.surface.Passed.{Passed}
 use Rattle.surfaces.proofs.Passes.{onFrom, next, step, more, stops}
-use Rattle.surfaces.proofs.Refusals.{has-ended}
+use Rattle.surfaces.proofs.Refusals.{never-going}
 use Rattle.surfaces.proofs.surface.newton.Statement.{statement}
 use Rattle.surfaces.proofs.surface.newton.Tie as tie
 
@@ -63,17 +64,22 @@ loop-less c = omega (arith, fewer c)
 loop-again : tie.Need-loop-again Inv-loop μ-loop
 loop-again c = (omega (arith, fewer c), rw add-one (came (c .before .before .before) _ (c .before .u .given .1)))
 
-add-t13 : tie.Need-add-t13 Inv-loop μ-loop
-add-t13 c =
-    let p = c .before .before .before in
+add-t14 : tie.Need-add-t14 Inv-loop μ-loop
+add-t14 c =
+    let p = c .before in
     let a = p .before .before .args in
     omega (arith, p .before .loop .inv .0, limits (a .q) (a .a) (a .semi) .1)
 
 returns : tie.Need-returns Inv-loop μ-loop
 returns c =
-    let p = c .before .before .before in
+    let p = c .before in
     let a = p .before .before .args in
-    rw add-one (sym (stops (shapeOf (a .q) (a .a) (a .semi)) (a .vertex) (a .ray) (p .before .loop .made) _ (has-ended (c .before .x .given .0 .0))) ∙ came p _ (c .before .x .given .1))
+    let done = stops (shapeOf (a .q) (a .a) (a .semi)) (a .vertex) (a .ray) (p .before .loop .made) in
+    rw add-one
+    (⊎-elim
+    (λ w. rw (w .3) (sym (done _ refl) ∙ came p _ (w .1 .given .1)))
+    (λ w. rw (w .3) (sym (done _ (never-going (w .1 .given .0 .0))) ∙ came p _ (w .1 .given .1)))
+    (c .match .came))
 
 pub newton-spec : {M : Type 1} → statement M
 newton-spec =
@@ -88,5 +94,6 @@ newton-spec =
     loop-less
     loop-again
     (λ c. search needs)
-    add-t13
+    (λ c. search needs)
+    add-t14
     returns)

@@ -43,9 +43,10 @@ pass-at-spec =
     (λ c. search needs)
     (λ c κs. tt)
     (λ c κs. tt)
+    (λ c κs. tt)
     (λ c.
-      let c1 = c .before in let c2 = c1 .before in let c5 = c2 .before .before .before in let c7 = c5 .before .before in let c8 = c7 .before in let c9 = c8 .before in let c12 = c9 .before .before .before in
-      rw (semi-of _ _ _, ← c12 .point-at .ensures, ← c9 .root-exceeds .ensures, c8 .if1 .left, ← c7 .depth .ensures, c5 .z .given .1, ← c2 .abs .ensures, c1 .if2 .taken, ← c .landed-within .ensures))
+      let c1 = c .before in let c2 = c1 .before in let c3 = c2 .before in let c6 = c3 .before .before .before in let c8 = c6 .before .before in let c9 = c8 .before in let c10 = c9 .before in let c13 = c10 .before .before .before in
+      rw (semi-of _ _ _, ← c13 .point-at .ensures, ← c10 .root-exceeds .ensures, c9 .if1 .left, ← c8 .depth .ensures, c6 .z .given .1, ← c3 .abs .ensures, c2 .if2 .taken, ← c1 .landed-within .ensures, ← c .ended .ensures))
     (λ c κs. tt)
     (λ c. search needs)
     (λ c κs. tt)

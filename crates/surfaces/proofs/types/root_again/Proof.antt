@@ -13,8 +13,8 @@ root-again-spec =
     (λ c κs. tt)
     (λ c κs. tt)
     (λ c.
-      let c1 = c .before in
-      rw (← c1 .same .ensures, c .if1 .taken))
+    let c1 = c .before in
+    rw (← c1 .same .ensures, c .if1 .taken))
     (λ c.
-      let c1 = c .before in let c2 = c1 .before in
-      rw (← c2 .same .ensures, c1 .if1 .left, ← c .sqrt .ensures)))
+    let c1 = c .before in let c2 = c1 .before in
+    rw (← c2 .same .ensures, c1 .if1 .left, ← c .sqrt .ensures)))

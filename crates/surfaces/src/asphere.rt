@@ -55,14 +55,11 @@ pub enum Depth {
 pub fn edge_root(radicand: f64) -> Number
     ensures { λ r. ⌜ toldNumber r ≡ edgeRoot radicand ⌝ }
 {
-    if radicand < -1e-12 {
-        return Number::Refused(Refusal::GeometryOutsideAperture);
-    }
-    Number::Is(sqrt(max(radicand, 0.0)))
+    edge_root_beside(radicand, radicand)
 }
 
 // The same, where `near` is a guess at the radicand that is known earlier.
-fn edge_root_beside(radicand: f64, near: f64) -> Number
+pub fn edge_root_beside(radicand: f64, near: f64) -> Number
     ensures { λ r. ⌜ toldNumber r ≡ edgeRoot radicand ⌝ }
 {
     if radicand < -1e-12 {

@@ -5,6 +5,7 @@ ghost use Rattle.surfaces.specs.Conic.{radiusOf};
 ghost use Rattle.surfaces.specs.Biconic.{numeratorOf, biconicRadicand, biconicDepth, onAxis, meridianSlope, biconicSlopesAt, biconicSlopesFrom, biconicSlopes, biconicNormal, biconicGood, newBiconic, biconicSagAnswer, biconicSlopesAnswer, biconicNormalAnswer, biconicCrossingAnswer, biconicParaxial, baseCurveSag, toroidDepth, baseCurveSlope, circleDepth, circleSlopesAt, circleSlopes, toroidSlopesFrom, toroidSlopes, toroidNormal, toroidGood, newToroid, toroidSagAnswer, toroidSlopesAnswer, toroidNormalAnswer, toroidCrossingAnswer, normalOf, baseCurveRadicand, slopeRadicand};
 use crate::asphere::Depth;
 use crate::asphere::edge_root;
+use crate::asphere::edge_root_beside;
 use crate::asphere::facing;
 use crate::asphere::length_of;
 use crate::asphere::sag_of;
@@ -265,11 +266,17 @@ fn base_curve_sag(cy: f64, y: f64, s: f64) -> f64
     (cy * (y * y)) / (1.0 + s)
 }
 
-// The rolled circle's sag, from its radius `term` at y.
-fn circle_depth(rx: f64, x: f64, term: f64, base: f64) -> Depth
+// About the base curve's sag, without its root: 1 / (1 + √(1 - u)) is 1/2 + u/8 + u²/16 + 5u³/128 + 7u⁴/256 + ... Nothing is promised of it.
+fn base_curve_guess(cy: f64, ky: f64, y: f64) -> f64 {
+    let u = (1.0 + ky) * cy * cy * (y * y);
+    cy * (y * y) * (0.5 + u * (0.125 + u * (0.0625 + u * (0.0390625 + u * 0.02734375))))
+}
+
+// The rolled circle's sag, from its radius `term` at y. `near` is a guess at that radius, which shortens the wait and changes no answer.
+fn circle_depth(rx: f64, x: f64, term: f64, base: f64, near: f64) -> Depth
     ensures { λ d. ⌜ toldDepth d ≡ circleDepth rx x term base ⌝ }
 {
-    match edge_root(term * term - x * x) {
+    match edge_root_beside(term * term - x * x, near * near - x * x) {
         Number::Is(s) => Depth::At(rx - sign_of(rx) * s, s, term, base),
         Number::Refused(e) => Depth::Refused(e),
     }
@@ -280,7 +287,15 @@ pub fn toroid_depth(rx: f64, cy: f64, ky: f64, x: f64, y: f64) -> Depth
     ensures { λ d. ⌜ toldDepth d ≡ toroidDepth rx cy ky x y ⌝ }
 {
     match edge_root(base_curve_radicand(cy, ky, y)) {
-        Number::Is(b) => circle_depth(rx, x, rx - base_curve_sag(cy, y, b), b),
+        Number::Is(b) => {
+            circle_depth(
+                rx,
+                x,
+                rx - base_curve_sag(cy, y, b),
+                b,
+                rx - base_curve_guess(cy, ky, y),
+            )
+        }
         Number::Refused(e) => Depth::Refused(e),
     }
 }

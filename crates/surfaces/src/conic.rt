@@ -166,8 +166,8 @@ fn gradient_normal(p: Vec3, s: ConicSurface) -> Direction
     let c = s.curvature;
     let k = s.conic;
     let r_sq = p.x * p.x + p.y * p.y;
-    let radicand = 1.0 - (1.0 + k) * c * c * r_sq;
-    if radicand < 0.0 {
+    let inside = 1.0 - (1.0 + k) * c * c * r_sq;
+    if inside < 0.0 {
         return Direction::Refused(Refusal::GeometryOutsideAperture);
     }
     let g = Vec3 {

@@ -13,8 +13,8 @@ ended-spec =
     (λ c. search needs)
     (λ c. search needs)
     (λ c.
-      let c1 = c .before in
-      rw (c1 .x .given .1))
+    let c1 = c .before in
+    rw (c1 .x .given .1))
     (λ c.
-      let c1 = c .before in
-      rw (c1 .x2 .given .1)))
+    let c1 = c .before in
+    rw (c1 .x2 .given .1)))

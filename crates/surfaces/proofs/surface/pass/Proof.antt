@@ -22,14 +22,14 @@ pass-spec =
     (λ c. search needs)
     (λ c κs. tt)
     (λ c.
-      let c1 = c .before in let c2 = c1 .before in let c4 = c2 .before .before in
-      rw (c4 .kind .given .1, ← c2 .conic-of .ensures, ← c1 .crossing .ensures, ← c .ended .ensures))
+    let c1 = c .before in let c2 = c1 .before in let c4 = c2 .before .before in
+    rw (c4 .kind .given .1, ← c2 .conic-of .ensures, ← c1 .crossing .ensures, ← c .ended .ensures))
     (λ c.
-      let c2 = c .before .before in
-      rw (c2 .kind2 .given .1, ← c .limited-pass .ensures))
+    let c2 = c .before .before in
+    rw (c2 .kind2 .given .1, ← c .limited-pass .ensures))
     (λ c.
-      let c2 = c .before .before in
-      rw (c2 .kind3 .given .1, ← c .limited-pass2 .ensures))
+    let c2 = c .before .before in
+    rw (c2 .kind3 .given .1, ← c .limited-pass2 .ensures))
     (λ c.
-      let c2 = c .before .before in
-      rw (c2 .kind4 .given .1, ← c .limited-pass3 .ensures)))
+    let c2 = c .before .before in
+    rw (c2 .kind4 .given .1, ← c .limited-pass3 .ensures)))

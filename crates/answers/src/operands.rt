@@ -1,0 +1,115 @@
+// What follows the operation on a line: numbers, and for an odd asphere a count `#n`.
+ghost use Prim.Native.Nat.{_+_, _≤_};
+ghost use Rattle.answers.specs.Operands.{Fit};
+use lines::ReadCount;
+use lines::ReadFloat;
+use lines::next_word;
+use lines::part;
+use lines::read_count;
+use lines::read_float;
+use surfaces::Ray;
+use surfaces::Vec3;
+
+pub type Values = [f64; 64];
+
+pub enum Operands {
+    // So many numbers.
+    Plain(usize),
+    // So many numbers, `#n`, n numbers, and so many more.
+    Marked(usize, usize, usize),
+    Unreadable,
+}
+
+// How many numbers there are now, and where what follows them begins.
+struct Numbers {
+    pub count: usize,
+    pub end: usize,
+}
+
+// Reads operands from a place of a line on, at most 64 with the count among them.
+pub fn read_operands(line: &[u8], at: usize, values: &mut Values) -> Operands
+    ensures { λ r. ⌜ Fit r ⌝ }
+{
+    let first = read_numbers(line, at, 0, values);
+    let word = next_word(line, first.end);
+    if word.start == word.end {
+        return Operands::Plain(first.count);
+    }
+    match read_mark(part(line, word.start, word.end)) {
+        ReadCount::Is(n) => read_marked(line, word.end, first.count, n as usize, values),
+        ReadCount::Unreadable => Operands::Unreadable,
+    }
+}
+
+// Reads numbers behind those that there are, up to the first word that is none.
+fn read_numbers(line: &[u8], at: usize, held: usize, values: &mut Values) -> Numbers
+    requires { ⌜ held ≤ 64 ⌝ }
+    ensures { λ r. ⌜ (held ≤ r .count) × (r .count ≤ 64) ⌝ }
+{
+    let mut count = held;
+    let mut end = at;
+    while count < 64 {
+        let word = next_word(line, end);
+        match read_float(part(line, word.start, word.end)) {
+            ReadFloat::Is(x) => {
+                values[count] = x;
+            }
+            ReadFloat::Unreadable => {
+                return Numbers { count, end };
+            }
+        }
+        count += 1;
+        end = word.end;
+    }
+    Numbers { count, end }
+}
+
+// The n of `#n`.
+fn read_mark(word: &[u8]) -> ReadCount {
+    if word.len() == 0 {
+        return ReadCount::Unreadable;
+    }
+    if word[0] != b'#' {
+        return ReadCount::Unreadable;
+    }
+    read_count(&word[1..], 64)
+}
+
+// Reads the numbers behind `#n`, of which there are at least n.
+fn read_marked(line: &[u8], at: usize, before: usize, n: usize, values: &mut Values) -> Operands
+    requires { ⌜ before ≤ 64 ⌝ }
+    ensures { λ r. ⌜ Fit r ⌝ }
+{
+    let all = read_numbers(line, at, before, values);
+    let word = next_word(line, all.end);
+    if word.start != word.end {
+        return Operands::Unreadable;
+    }
+    // with `#n` it is one too many
+    if all.count == 64 {
+        return Operands::Unreadable;
+    }
+    let behind = all.count - before;
+    if behind < n {
+        return Operands::Unreadable;
+    }
+    Operands::Marked(before, n, behind - n)
+}
+
+pub fn vector(v: &Values, at: usize) -> Vec3
+    requires { ⌜ at ≤ 61 ⌝ }
+{
+    Vec3 {
+        x: v[at],
+        y: v[at + 1],
+        z: v[at + 2],
+    }
+}
+
+// A ray is always a question's first operand.
+pub fn ray(v: &Values) -> Ray {
+    Ray {
+        origin: vector(v, 0),
+        direction: vector(v, 3),
+    }
+}

@@ -1,0 +1,69 @@
+"""Builds the oracle, asks it or another program that reads the same questions, and tells what document 01 makes of its answers."""
+import os
+import subprocess
+import sys
+from pathlib import Path
+
+from fixed import SPACED, UNREADABLE, WORKED, is_written
+from floats import number
+from limits import LIMITS, around
+from operations import is_intersection, line
+from rules import expected
+
+HERE = Path(__file__).resolve().parent
+TARGET = HERE.parent / "target" / "oracle"
+
+
+def built_oracle():
+    """The oracle's command."""
+    if "OPTICS_CORE" not in os.environ:
+        sys.exit("OPTICS_CORE has to name the folder with the Rust text's types.rs")
+    build = ["cargo", "build", "--release", "--offline", "--locked", "--quiet", "--target-dir", TARGET]
+    subprocess.run(build, cwd=HERE, check=True)
+    return [TARGET / "release" / "oracle"]
+
+
+def ask(command, lines):
+    """The answers, one for each line."""
+    questions = TARGET / "questions"
+    questions.write_text("\n".join(lines))
+    with questions.open() as stdin:
+        answers = subprocess.run(command, stdin=stdin, stdout=subprocess.PIPE, check=True).stdout.decode().splitlines()
+    if len(answers) != len(lines):
+        sys.exit(f"{command[0]} answers {len(answers)} of {len(lines)} lines")
+    return answers
+
+
+def with_directions_of_rust(oracle, questions):
+    """The same questions, their rays with the direction that Rust's `Ray::new` makes of theirs, where it does not refuse."""
+    rays = ask(oracle, [line(("ray_new", operands[:6])) for operation, operands in questions if is_intersection(operation)])
+    made = iter(rays)
+    for operation, operands in questions:
+        told = next(made) if is_intersection(operation) else ""
+        turned = told.startswith("1 ")
+        yield operation, [*map(number, told.split()[1:]), *operands[6:]] if turned else operands
+
+
+def wanted(oracle, asked):
+    """For each question and its line Rust's answer, document 01's, and the listed difference between them. A line without a
+    question cannot be read."""
+    told = ask(oracle, [text for _, text in asked])
+    answers = [(rust, *(expected(question, rust) if question else ("?", None))) for (question, _), rust in zip(asked, told)]
+    for (_, text), (rust, answer, _) in zip(asked, answers):
+        if (answer == "?") != (rust == "?"):
+            sys.exit(f"the oracle answers {rust} to: {text}")
+    return answers
+
+
+def fixed_questions(oracle):
+    """Worked cases and limits, which have to be where they are written to be, and lines that cannot be read."""
+    worked = [((operation, operands), line((operation, operands))) for operation, operands, _ in WORKED]
+    for (_, text), (_, answer, _), (*_, written) in zip(worked, wanted(oracle, worked), WORKED):
+        if not is_written(answer, written):
+            sys.exit(f"{answer} is not the written answer to: {text}")
+    limits = [(question, line(question)) for limit in LIMITS for question in around(*limit)]
+    numbers = [rust.split()[0] for rust, _, _ in wanted(oracle, limits)]
+    for i, (operation, operands, limit, written) in enumerate(LIMITS):
+        if "".join(numbers[3 * i : 3 * i + 3]) != written:
+            sys.exit(f"{limit} is not the limit of {operation} in {operands}")
+    return [*worked, *limits, *SPACED, *((None, text) for text in UNREADABLE)]

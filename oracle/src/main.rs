@@ -1,0 +1,214 @@
+//! Answers questions from standard input, one a line, with the functions of the Rust text.
+//!
+//! Questions and answers are those of the program `answers`, and one more is known: `ray_new` takes an origin and a
+//! direction, and answers with the origin and the direction that `Ray::new` makes.
+
+mod operands;
+
+use std::io::{self, Read, Write};
+
+use conic::{ConicSurface, conic_normal, conic_sag, intersect_conic};
+use error::OpticsError;
+use operands::Operands;
+use snell::{reflect, snell_refract};
+use surface::asphere::{EvenAsphere, OddAsphere};
+use surface::biconic::{BiconicSurface, ToroidalSurface};
+use types::{Ray, Vec3};
+
+include!(concat!(env!("OUT_DIR"), "/text.rs"));
+
+const _: () = assert!(!cfg!(debug_assertions), "the release build decides");
+
+type Answer = Result<Vec<f64>, OpticsError>;
+
+fn one(x: f64) -> Answer {
+    Ok(vec![x])
+}
+
+fn truth(b: bool) -> f64 {
+    if b { 1.0 } else { 0.0 }
+}
+
+fn vector(v: Vec3) -> Vec<f64> {
+    vec![v.x, v.y, v.z]
+}
+
+fn pair((x, y): (f64, f64)) -> Vec<f64> {
+    vec![x, y]
+}
+
+fn hit((t, point): (f64, Vec3)) -> Vec<f64> {
+    [vec![t], vector(point)].concat()
+}
+
+fn conic_numbers(s: ConicSurface) -> Vec<f64> {
+    vec![s.vertex_z, s.curvature, s.conic_constant, s.semi_diam_mm]
+}
+
+fn even_numbers(s: EvenAsphere) -> Vec<f64> {
+    [vec![s.curvature, s.conic_constant, s.semi_diameter_mm], s.coefficients].concat()
+}
+
+fn odd_numbers(s: OddAsphere) -> Vec<f64> {
+    [vec![s.curvature, s.conic_constant, s.semi_diameter_mm], s.even_coefficients, s.odd_coefficients].concat()
+}
+
+fn biconic_numbers(s: BiconicSurface) -> Vec<f64> {
+    vec![s.cx, s.kx, s.cy, s.ky, s.semi_diameter_mm]
+}
+
+fn toroid_numbers(s: ToroidalSurface) -> Vec<f64> {
+    vec![s.rx_mm, s.cy, s.ky, s.semi_diameter_mm]
+}
+
+/// None for a line that cannot be read.
+fn answer(line: &[u8]) -> Option<Answer> {
+    let (operation, mut q) = Operands::of_line(line)?;
+    let answer = match operation {
+        "sqrt" => one(q.number()?.sqrt()),
+        "abs" => one(q.number()?.abs()),
+        "max" => one(q.number()?.max(q.number()?)),
+        "clamp" => one(q.number()?.clamp(0.0, 1.0)),
+        "finite" => one(truth(q.number()?.is_finite())),
+
+        "ray_new" => {
+            let ray = q.ray()?;
+            Ray::new(ray.origin, ray.direction, ray.wavelength_nm, ray.energy)
+                .map(|ray| [vector(ray.origin), vector(ray.direction)].concat())
+        }
+        "reflect" => reflect(q.vector()?, q.vector()?).map(vector),
+        "refract" => snell_refract(q.vector()?, q.vector()?, q.number()?, q.number()?).map(vector),
+
+        "conic_from_radius" => ConicSurface::from_radius(q.number()?, q.number()?, q.number()?).map(conic_numbers),
+        "conic_from_curvature" => {
+            ConicSurface::from_curvature(q.number()?, q.number()?, q.number()?).map(conic_numbers)
+        }
+        "conic_sphere" => ConicSurface::sphere(q.number()?, q.number()?).map(conic_numbers),
+        "conic_plane" => ConicSurface::plane(q.number()?).map(conic_numbers),
+        "conic_with_vertex_z" => Ok(conic_numbers(q.conic()?.with_vertex_z(q.number()?))),
+        "conic_radius" => one(q.conic()?.radius_mm()),
+        "conic_sag" => conic_sag(q.number()?, q.number()?, q.number()?).and_then(one),
+        "conic_normal" => conic_normal(q.vector()?, &q.conic()?).map(vector),
+        "conic_intersect" => intersect_conic(&q.ray()?, &q.conic()?, 0)
+            .map(|h| [hit((h.t, h.point)), vector(h.normal), vec![truth(h.is_front_face)]].concat()),
+
+        "even_new" => {
+            let s = q.even()?;
+            EvenAsphere::new(s.curvature, s.conic_constant, s.coefficients, s.semi_diameter_mm).map(even_numbers)
+        }
+        "even_paraxial" => one(q.even()?.paraxial_curvature()),
+        "even_sag" => {
+            let r = q.number()?;
+            q.even()?.sag(r).and_then(one)
+        }
+        "even_derivative" => {
+            let r = q.number()?;
+            q.even()?.radial_derivative(r).and_then(one)
+        }
+        "even_normal" => {
+            let (x, y) = q.place()?;
+            q.even()?.normal(x, y).map(vector)
+        }
+        "even_intersect" => {
+            let (ray, vertex_z) = (q.ray()?, q.number()?);
+            q.even()?.intersect_ray(&ray, vertex_z).map(hit)
+        }
+
+        "odd_new" => {
+            let s = q.odd()?;
+            let (even, odd) = (s.even_coefficients, s.odd_coefficients);
+            OddAsphere::new(s.curvature, s.conic_constant, even, odd, s.semi_diameter_mm).map(odd_numbers)
+        }
+        "odd_sag" => {
+            let r = q.number()?;
+            q.odd()?.sag(r).and_then(one)
+        }
+        "odd_normal" => {
+            let (x, y) = q.place()?;
+            q.odd()?.normal(x, y).map(vector)
+        }
+
+        "biconic_new" => {
+            let s = q.biconic()?;
+            BiconicSurface::new(s.cx, s.kx, s.cy, s.ky, s.semi_diameter_mm).map(biconic_numbers)
+        }
+        "biconic_paraxial" => Ok(pair(q.biconic()?.paraxial_curvatures())),
+        "biconic_rx" => one(q.biconic()?.rx_mm()),
+        "biconic_ry" => one(q.biconic()?.ry_mm()),
+        "biconic_sag" => {
+            let (x, y) = q.place()?;
+            q.biconic()?.sag(x, y).and_then(one)
+        }
+        "biconic_derivatives" => {
+            let (x, y) = q.place()?;
+            q.biconic()?.derivatives(x, y).map(pair)
+        }
+        "biconic_normal" => {
+            let (x, y) = q.place()?;
+            q.biconic()?.normal(x, y).map(vector)
+        }
+        "biconic_intersect" => {
+            let (ray, vertex_z) = (q.ray()?, q.number()?);
+            q.biconic()?.intersect_ray(&ray, vertex_z).map(hit)
+        }
+
+        "toroid_new" => {
+            let s = q.toroid()?;
+            ToroidalSurface::new(s.rx_mm, s.cy, s.ky, s.semi_diameter_mm).map(toroid_numbers)
+        }
+        "toroid_ry" => one(q.toroid()?.ry_mm()),
+        "toroid_sag" => {
+            let (x, y) = q.place()?;
+            q.toroid()?.sag(x, y).and_then(one)
+        }
+        "toroid_derivatives" => {
+            let (x, y) = q.place()?;
+            q.toroid()?.derivatives(x, y).map(pair)
+        }
+        "toroid_normal" => {
+            let (x, y) = q.place()?;
+            q.toroid()?.normal(x, y).map(vector)
+        }
+        "toroid_intersect" => {
+            let (ray, vertex_z) = (q.ray()?, q.number()?);
+            q.toroid()?.intersect_ray(&ray, vertex_z).map(hit)
+        }
+        _ => return None,
+    };
+    q.end()?;
+    Some(answer)
+}
+
+/// Document 01's number, and the values that are told with it.
+fn number_and_values(answer: Answer) -> (u8, Vec<f64>) {
+    match answer {
+        Ok(values) => (1, values),
+        Err(OpticsError::InvalidParameter(_)) => (2, vec![]),
+        Err(OpticsError::InvalidSurface(_)) => (3, vec![]),
+        Err(OpticsError::NumericalSingularity(_)) => (4, vec![]),
+        Err(OpticsError::GeometryOutsideAperture) => (5, vec![]),
+        Err(OpticsError::RayMissedSurface(_)) => (6, vec![]),
+        Err(OpticsError::RayVignetted { r, max_r, .. }) => (7, vec![r, max_r]),
+        Err(OpticsError::TotalInternalReflection) => (8, vec![]),
+        Err(other) => panic!("{other:?} has no number in document 01"),
+    }
+}
+
+fn written(answer: Option<Answer>) -> String {
+    let Some(answer) = answer else { return "?\n".to_string() };
+    let (number, values) = number_and_values(answer);
+    let bits = |x: f64| if x.is_nan() { 0x7FF8_0000_0000_0000 } else { x.to_bits() };
+    let words: String = values.into_iter().map(|x| format!(" {:016X}", bits(x))).collect();
+    format!("{number}{words}\n")
+}
+
+fn main() -> io::Result<()> {
+    let mut questions = Vec::new();
+    io::stdin().read_to_end(&mut questions)?;
+    let mut out = io::BufWriter::new(io::stdout().lock());
+    for line in questions.split_inclusive(|&byte| byte == b'\n') {
+        let line = line.strip_suffix(b"\n").unwrap_or(line);
+        out.write_all(written(answer(line)).as_bytes())?;
+    }
+    out.flush()
+}

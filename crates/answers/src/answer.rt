@@ -29,7 +29,7 @@ pub struct Answer {
     pub values: [f64; 19],
 }
 
-pub fn unreadable() -> Answer {
+pub(crate) fn unreadable() -> Answer {
     numbered(0)
 }
 
@@ -37,7 +37,7 @@ fn done() -> Answer {
     numbered(1)
 }
 
-pub fn just(x: f64) -> Answer {
+pub(crate) fn just(x: f64) -> Answer {
     done().with(x)
 }
 
@@ -49,13 +49,13 @@ fn numbered(number: u64) -> Answer {
     }
 }
 
-pub fn truth(b: bool) -> f64 {
+pub(crate) fn truth(b: bool) -> f64 {
     if b { 1.0 } else { 0.0 }
 }
 
 impl Answer {
     // One value more, while there is room.
-    pub fn with(self, x: f64) -> Answer {
+    pub(crate) fn with(self, x: f64) -> Answer {
         let n = self.count;
         let mut values = self.values;
         if n < 19 {
@@ -69,7 +69,7 @@ impl Answer {
         self
     }
 
-    pub fn with_vector(self, v: Vec3) -> Answer {
+    pub(crate) fn with_vector(self, v: Vec3) -> Answer {
         self.with(v.x).with(v.y).with(v.z)
     }
 
@@ -89,7 +89,7 @@ impl Answer {
     }
 
     // Tells whether that succeeded. A digit and 19 values take 325 bytes.
-    pub fn print(self) -> bool {
+    pub(crate) fn print(self) -> bool {
         let mut line = [0u8; 400];
         let end = self.put(&mut line);
         write_line(&mut line, end)
@@ -114,7 +114,7 @@ impl Answer {
     }
 }
 
-pub fn refused(e: Refusal) -> Answer {
+pub(crate) fn refused(e: Refusal) -> Answer {
     match e {
         Refusal::InvalidParameter => numbered(2),
         Refusal::InvalidSurface => numbered(3),
@@ -127,35 +127,35 @@ pub fn refused(e: Refusal) -> Answer {
     }
 }
 
-pub fn number(a: Number) -> Answer {
+pub(crate) fn number(a: Number) -> Answer {
     match a {
         Number::Is(x) => done().with(x),
         Number::Refused(e) => refused(e),
     }
 }
 
-pub fn sag(a: Sag) -> Answer {
+pub(crate) fn sag(a: Sag) -> Answer {
     match a {
         Sag::At(z) => done().with(z),
         Sag::Refused(e) => refused(e),
     }
 }
 
-pub fn pair(a: Pair) -> Answer {
+pub(crate) fn pair(a: Pair) -> Answer {
     match a {
         Pair::Both(m) => done().with(m.x).with(m.y),
         Pair::Refused(e) => refused(e),
     }
 }
 
-pub fn direction(a: Direction) -> Answer {
+pub(crate) fn direction(a: Direction) -> Answer {
     match a {
         Direction::To(v) => done().with_vector(v),
         Direction::Refused(e) => refused(e),
     }
 }
 
-pub fn crossing(a: Crossing) -> Answer {
+pub(crate) fn crossing(a: Crossing) -> Answer {
     match a {
         Crossing::At(l) => {
             let p = l.point;
@@ -165,7 +165,7 @@ pub fn crossing(a: Crossing) -> Answer {
     }
 }
 
-pub fn meet(a: Meet) -> Answer {
+pub(crate) fn meet(a: Meet) -> Answer {
     match a {
         Meet::Hit(h) => {
             let p = h.point;
@@ -179,14 +179,14 @@ pub fn meet(a: Meet) -> Answer {
     }
 }
 
-pub fn conic(s: ConicSurface) -> Answer {
+pub(crate) fn conic(s: ConicSurface) -> Answer {
     done().with(s.vertex)
         .with(s.curvature)
         .with(s.conic)
         .with(s.semi)
 }
 
-pub fn new_conic(a: NewConic) -> Answer {
+pub(crate) fn new_conic(a: NewConic) -> Answer {
     match a {
         NewConic::Made(s) => conic(s),
         NewConic::Refused(e) => refused(e),
@@ -201,7 +201,7 @@ fn even(s: EvenAsphere) -> Answer {
         .with_coefficients(a)
 }
 
-pub fn new_even(a: NewEven) -> Answer {
+pub(crate) fn new_even(a: NewEven) -> Answer {
     let verdict = a.verdict;
     let s = a.surface;
     match verdict {
@@ -220,7 +220,7 @@ fn odd(s: OddAsphere) -> Answer {
         .with_coefficients(b)
 }
 
-pub fn new_odd(a: NewOdd) -> Answer {
+pub(crate) fn new_odd(a: NewOdd) -> Answer {
     let verdict = a.verdict;
     let s = a.surface;
     match verdict {
@@ -229,7 +229,7 @@ pub fn new_odd(a: NewOdd) -> Answer {
     }
 }
 
-pub fn new_biconic(a: NewBiconic) -> Answer {
+pub(crate) fn new_biconic(a: NewBiconic) -> Answer {
     match a {
         NewBiconic::Made(s) => done().with(s.cx)
             .with(s.kx)
@@ -240,7 +240,7 @@ pub fn new_biconic(a: NewBiconic) -> Answer {
     }
 }
 
-pub fn new_toroid(a: NewToroid) -> Answer {
+pub(crate) fn new_toroid(a: NewToroid) -> Answer {
     match a {
         NewToroid::Made(s) => done().with(s.rx).with(s.cy).with(s.ky).with(s.semi),
         NewToroid::Refused(e) => refused(e),

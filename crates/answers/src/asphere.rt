@@ -16,7 +16,7 @@ use surfaces::EvenAsphere;
 use surfaces::OddAsphere;
 
 // The table has the numbers without coefficients.
-pub fn answer_even(method: &[u8], v: &Values, count: usize) -> Answer
+pub(crate) fn answer_even(method: &[u8], v: &Values, count: usize) -> Answer
     requires { ⌜ count ≤ 64 ⌝ }
 {
     let entry = look_up(
@@ -77,7 +77,7 @@ fn coefficients(v: &Values, at: usize, count: usize) -> Coefficients
 }
 
 // The table has the numbers before the count of even coefficients.
-pub fn answer_odd(name: &[u8], v: &Values, before: usize, even: usize, odd: usize) -> Answer
+pub(crate) fn answer_odd(name: &[u8], v: &Values, before: usize, even: usize, odd: usize) -> Answer
     requires { ⌜ before + even + odd ≤ 64 ⌝ }
 {
     let entry = look_up(name, b"odd_new 3 odd_sag 4 odd_normal 5");

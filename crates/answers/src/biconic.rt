@@ -15,7 +15,7 @@ use crate::table::look_up;
 use surfaces::BiconicSurface;
 use surfaces::ToroidalSurface;
 
-pub fn answer_biconic(method: &[u8], v: &Values, count: usize) -> Answer
+pub(crate) fn answer_biconic(method: &[u8], v: &Values, count: usize) -> Answer
     requires { ⌜ count ≤ 64 ⌝ }
 {
     let entry = look_up(
@@ -59,7 +59,7 @@ fn of_biconic(row: u64, s: BiconicSurface, v: &Values) -> Answer {
     }
 }
 
-pub fn answer_toroid(method: &[u8], v: &Values, count: usize) -> Answer
+pub(crate) fn answer_toroid(method: &[u8], v: &Values, count: usize) -> Answer
     requires { ⌜ count ≤ 64 ⌝ }
 {
     let entry = look_up(

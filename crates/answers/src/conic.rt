@@ -17,7 +17,7 @@ use surfaces::conic_normal;
 use surfaces::conic_sag;
 use surfaces::intersect_conic;
 
-pub fn answer_conic(method: &[u8], v: &Values, count: usize) -> Answer {
+pub(crate) fn answer_conic(method: &[u8], v: &Values, count: usize) -> Answer {
     let entry = look_up(
         method,
         b"plane 1 sphere 2 from_radius 3 from_curvature 3 sag 3 radius 4 with_vertex_z 5 normal 7 intersect 10",

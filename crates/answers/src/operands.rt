@@ -27,7 +27,7 @@ struct Numbers {
 }
 
 // Reads operands from a place of a line on, at most 64 with the count among them.
-pub fn read_operands(line: &[u8], at: usize, values: &mut Values) -> Operands
+pub(crate) fn read_operands(line: &[u8], at: usize, values: &mut Values) -> Operands
     ensures { λ r. ⌜ Fit r ⌝ }
 {
     let first = read_numbers(line, at, 0, values);
@@ -96,7 +96,7 @@ fn read_marked(line: &[u8], at: usize, before: usize, n: usize, values: &mut Val
     Operands::Marked(before, n, behind - n)
 }
 
-pub fn vector(v: &Values, at: usize) -> Vec3
+pub(crate) fn vector(v: &Values, at: usize) -> Vec3
     requires { ⌜ at ≤ 61 ⌝ }
 {
     Vec3 {
@@ -107,7 +107,7 @@ pub fn vector(v: &Values, at: usize) -> Vec3
 }
 
 // A ray is always a question's first operand.
-pub fn ray(v: &Values) -> Ray {
+pub(crate) fn ray(v: &Values) -> Ray {
     Ray {
         origin: vector(v, 0),
         direction: vector(v, 3),

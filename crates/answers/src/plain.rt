@@ -10,7 +10,7 @@ use crate::table::look_up;
 use surfaces::reflect;
 use surfaces::snell_refract;
 
-pub fn answer_plain(name: &[u8], v: &Values, count: usize) -> Answer {
+pub(crate) fn answer_plain(name: &[u8], v: &Values, count: usize) -> Answer {
     let entry = look_up(
         name,
         b"sqrt 1 abs 1 clamp 1 finite 1 max 2 reflect 6 refract 8",

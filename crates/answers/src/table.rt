@@ -20,7 +20,7 @@ fn no_entry() -> Entry {
 }
 
 // A table has at most 16 rows.
-pub fn look_up(name: &[u8], table: &[u8]) -> Entry {
+pub(crate) fn look_up(name: &[u8], table: &[u8]) -> Entry {
     let mut at = 0usize;
     let mut row = 0u64;
     while row < 16 {

@@ -1,5 +1,6 @@
 // The lines of standard input, one after the other, in a buffer that the caller lends. A read that fails counts as the input's end.
 ghost use Prim.Native.Nat.{_+_, _≤_};
+ghost use mathlib.Core.Path.{_≡_};
 ghost use lib.ListN.{length};
 use libc::STDIN_FILENO;
 
@@ -23,8 +24,10 @@ pub struct Next {
     pub unread: Unread,
 }
 
-// The next line. The last one may lack its line feed.
-pub fn next_line(buffer: &mut [u8], unread: Unread) -> Next {
+// The next line. The last one may lack its line feed. What it is depends on what is read, of which nothing can be promised.
+pub fn next_line(buffer: &mut [u8], unread: Unread) -> Next
+    ensures { λ r. ⌜ length (now (buffer .exit)) ≡ length (now (buffer .entry)) ⌝ }
+{
     let to = least(unread.to, buffer.len());
     let from = least(unread.from, to);
     let end = bytes::scan::find(buffer, from, to, b'\n');

@@ -46,20 +46,20 @@ pub struct NewEven {
 
 // A raw sag, with what the slopes at the same point need of it: its root; an even asphere's r, a biconic's numerator or a toroid's
 // circle; and the root of a toroid's base curve.
-pub enum Depth {
+pub(crate) enum Depth {
     At(f64, f64, f64, f64),
     Refused(Refusal),
 }
 
 // The root in every sag but the conic's: a radicand a little below 0 counts as 0.
-pub fn edge_root(radicand: f64) -> Number
+pub(crate) fn edge_root(radicand: f64) -> Number
     ensures { λ r. ⌜ toldNumber r ≡ edgeRoot radicand ⌝ }
 {
     edge_root_beside(radicand, radicand)
 }
 
 // The same, where `near` is a guess at the radicand that is known earlier.
-pub fn edge_root_beside(radicand: f64, near: f64) -> Number
+pub(crate) fn edge_root_beside(radicand: f64, near: f64) -> Number
     ensures { λ r. ⌜ toldNumber r ≡ edgeRoot radicand ⌝ }
 {
     if radicand < -1e-12 {
@@ -138,7 +138,7 @@ fn slope_sum(values: [f64; 8], n: usize, exponent: f64, power: f64, r2: f64) -> 
 }
 
 // The Rust's EvenAsphere::sag, with a guess at r * r.
-pub fn even_depth(c: f64, k: f64, a: Coefficients, r: f64, near: f64) -> Depth
+pub(crate) fn even_depth(c: f64, k: f64, a: Coefficients, r: f64, near: f64) -> Depth
     ensures { λ d. ⌜ toldDepth d ≡ evenDepth c k a r ⌝ }
 {
     if !is_finite(r) | (r < 0.0) {
@@ -198,7 +198,7 @@ fn radial_slopes(d: f64, x: f64, y: f64, r: f64) -> Meridians
 }
 
 // The slopes of a Newton pass, from the root that the sag there had.
-pub fn even_slopes_from(c: f64, a: Coefficients, x: f64, y: f64, r: f64, s: f64) -> Pair
+pub(crate) fn even_slopes_from(c: f64, a: Coefficients, x: f64, y: f64, r: f64, s: f64) -> Pair
     ensures { λ m. ⌜ toldPair m ≡ evenSlopesFrom c a x y r s ⌝ }
 {
     match even_slope_from(c, a, r, s) {
@@ -208,14 +208,14 @@ pub fn even_slopes_from(c: f64, a: Coefficients, x: f64, y: f64, r: f64, s: f64)
 }
 
 // The length of (dx, dy, -1), in which a surface with these slopes faces.
-pub fn length_of(dx: f64, dy: f64) -> f64
+pub(crate) fn length_of(dx: f64, dy: f64) -> f64
     ensures { λ r. ⌜ r ≡ lengthOf dx dy ⌝ }
 {
     sqrt(dx * dx + dy * dy + 1.0)
 }
 
 // The unit normal of such a surface, towards -z.
-pub fn facing(dx: f64, dy: f64, norm: f64) -> Vec3
+pub(crate) fn facing(dx: f64, dy: f64, norm: f64) -> Vec3
     ensures { λ v. ⌜ v ≡ facingOf dx dy norm ⌝ }
 {
     Vec3 {
@@ -237,7 +237,7 @@ fn even_facing(dx: f64, dy: f64) -> Direction
 }
 
 // The Rust's EvenAsphere::normal.
-pub fn even_normal(c: f64, k: f64, a: Coefficients, x: f64, y: f64) -> Direction
+pub(crate) fn even_normal(c: f64, k: f64, a: Coefficients, x: f64, y: f64) -> Direction
     ensures { λ v. ⌜ toldDirection v ≡ evenNormal c k a x y ⌝ }
 {
     let r = sqrt(x * x + y * y);
@@ -354,7 +354,7 @@ impl EvenAsphere {
     }
 }
 
-pub fn sag_of(d: Depth) -> Sag
+pub(crate) fn sag_of(d: Depth) -> Sag
     ensures { λ z. ⌜ toldSag z ≡ sagOf (toldDepth d) ⌝ }
 {
     match d {

@@ -59,7 +59,7 @@ fn biconic_radicand(cx: f64, kx: f64, cy: f64, ky: f64, x: f64, y: f64) -> f64
 }
 
 // The Rust's BiconicSurface::sag.
-pub fn biconic_depth(cx: f64, kx: f64, cy: f64, ky: f64, x: f64, y: f64) -> Depth
+pub(crate) fn biconic_depth(cx: f64, kx: f64, cy: f64, ky: f64, x: f64, y: f64) -> Depth
     ensures { λ d. ⌜ toldDepth d ≡ biconicDepth cx kx cy ky x y ⌝ }
 {
     if !(is_finite(x) & is_finite(y)) {
@@ -100,7 +100,7 @@ fn biconic_slopes_at(cx: f64, kx: f64, cy: f64, ky: f64, x: f64, y: f64, num: f6
 }
 
 // The slopes of a Newton pass, from the numerator and the root that the sag there had.
-pub fn biconic_slopes_from(
+pub(crate) fn biconic_slopes_from(
     cx: f64,
     kx: f64,
     cy: f64,
@@ -142,7 +142,7 @@ fn normal_of(m: Pair) -> Direction
 }
 
 // The Rust's BiconicSurface::normal.
-pub fn biconic_normal(cx: f64, kx: f64, cy: f64, ky: f64, x: f64, y: f64) -> Direction
+pub(crate) fn biconic_normal(cx: f64, kx: f64, cy: f64, ky: f64, x: f64, y: f64) -> Direction
     ensures { λ v. ⌜ toldDirection v ≡ biconicNormal cx kx cy ky x y ⌝ }
 {
     normal_of(biconic_slopes(cx, kx, cy, ky, x, y))
@@ -283,7 +283,7 @@ fn circle_depth(rx: f64, x: f64, term: f64, base: f64, near: f64) -> Depth
 }
 
 // The Rust's ToroidalSurface::sag, which has no test of its arguments.
-pub fn toroid_depth(rx: f64, cy: f64, ky: f64, x: f64, y: f64) -> Depth
+pub(crate) fn toroid_depth(rx: f64, cy: f64, ky: f64, x: f64, y: f64) -> Depth
     ensures { λ d. ⌜ toldDepth d ≡ toroidDepth rx cy ky x y ⌝ }
 {
     match edge_root(base_curve_radicand(cy, ky, y)) {
@@ -325,7 +325,7 @@ fn circle_slopes_at(rx: f64, x: f64, term: f64, s: f64, d: f64) -> Meridians
 }
 
 // The slopes of a Newton pass, from the circle's radius, its root and the base curve's root that the sag there had.
-pub fn toroid_slopes_from(
+pub(crate) fn toroid_slopes_from(
     rx: f64,
     cy: f64,
     ky: f64,
@@ -372,7 +372,7 @@ fn toroid_slopes(rx: f64, cy: f64, ky: f64, x: f64, y: f64) -> Pair
 }
 
 // The Rust's ToroidalSurface::normal.
-pub fn toroid_normal(rx: f64, cy: f64, ky: f64, x: f64, y: f64) -> Direction
+pub(crate) fn toroid_normal(rx: f64, cy: f64, ky: f64, x: f64, y: f64) -> Direction
     ensures { λ v. ⌜ toldDirection v ≡ toroidNormal rx cy ky x y ⌝ }
 {
     normal_of(toroid_slopes(rx, cy, ky, x, y))

@@ -128,7 +128,7 @@ impl ConicSurface {
 }
 
 // The radius of a curvature, infinite for a plane.
-pub fn radius_of(c: f64) -> f64
+pub(crate) fn radius_of(c: f64) -> f64
     ensures { λ r. ⌜ r ≡ radiusOf c ⌝ }
 {
     if abs(c) < 1e-15 { 1.0 / 0.0 } else { 1.0 / c }
@@ -208,7 +208,7 @@ pub fn conic_normal(p: Vec3, s: ConicSurface) -> Direction
 }
 
 // At t, unless r is beyond the semi-diameter. `sq` is what r is the root of.
-pub fn landed_within(t: f64, p: Vec3, sq: f64, semi: f64) -> Crossing
+pub(crate) fn landed_within(t: f64, p: Vec3, sq: f64, semi: f64) -> Crossing
     ensures { λ x. ⌜ toldCrossing x ≡ landedWithin t p (root sq) semi ⌝ }
 {
     if root_exceeds(sq, semi) {
@@ -270,7 +270,7 @@ fn cross_two(ray: Ray, s: ConicSurface, t: f64, u: f64) -> Crossing
 }
 
 // A candidate, if it is kept.
-pub enum Root {
+pub(crate) enum Root {
     Dropped,
     At(f64),
 }
@@ -327,7 +327,7 @@ fn cross_roots(ray: Ray, s: ConicSurface, x: Root, y: Root) -> Crossing
 }
 
 // A t² + B t + C = 0 where the ray meets the whole quadric.
-pub struct Quadratic {
+pub(crate) struct Quadratic {
     pub a: f64,
     pub b: f64,
     pub c: f64,
@@ -351,7 +351,7 @@ fn quadratic_of(ray: Ray, s: ConicSurface) -> Quadratic
     }
 }
 
-pub fn sign_of(b: f64) -> f64
+pub(crate) fn sign_of(b: f64) -> f64
     ensures { λ r. ⌜ r ≡ signOf b ⌝ }
 {
     if b >= 0.0 { 1.0 } else { -1.0 }
@@ -370,7 +370,7 @@ fn curved_crossing(ray: Ray, s: ConicSurface) -> Crossing
 }
 
 // The Rust's intersect_conic up to the normal.
-pub fn crossing(ray: Ray, s: ConicSurface) -> Crossing
+pub(crate) fn crossing(ray: Ray, s: ConicSurface) -> Crossing
     ensures { λ r. ⌜ toldCrossing r ≡ conicCrossing ray s ⌝ }
 {
     if abs(s.curvature) < 1e-15 {
@@ -381,7 +381,7 @@ pub fn crossing(ray: Ray, s: ConicSurface) -> Crossing
 }
 
 // The normal that intersect_conic hands out: along the axis for a plane.
-pub fn normal_at(p: Vec3, s: ConicSurface) -> Direction
+pub(crate) fn normal_at(p: Vec3, s: ConicSurface) -> Direction
     ensures { λ r. ⌜ toldDirection r ≡ normalAt p s ⌝ }
 {
     if abs(s.curvature) < 1e-15 {

@@ -53,7 +53,7 @@ pub enum Crossing {
     Refused(Refusal),
 }
 
-pub fn checked_number(a: Number) -> Number
+pub(crate) fn checked_number(a: Number) -> Number
     ensures { λ r. ⌜ toldNumber r ≡ checked9 0f finite (toldNumber a) ⌝ }
 {
     match a {
@@ -68,7 +68,7 @@ pub fn checked_number(a: Number) -> Number
     }
 }
 
-pub fn checked_sag(a: Sag) -> Sag
+pub(crate) fn checked_sag(a: Sag) -> Sag
     ensures { λ r. ⌜ toldSag r ≡ checked9 0f finite (toldSag a) ⌝ }
 {
     match a {
@@ -83,7 +83,7 @@ pub fn checked_sag(a: Sag) -> Sag
     }
 }
 
-pub fn checked_pair(a: Pair) -> Pair
+pub(crate) fn checked_pair(a: Pair) -> Pair
     ensures { λ r. ⌜ toldPair r ≡ checked9 noMeridians bothFinite (toldPair a) ⌝ }
 {
     match a {
@@ -98,7 +98,7 @@ pub fn checked_pair(a: Pair) -> Pair
     }
 }
 
-pub fn checked_direction(a: Direction) -> Direction
+pub(crate) fn checked_direction(a: Direction) -> Direction
     ensures { λ r. ⌜ toldDirection r ≡ checked9 zeros allFinite (toldDirection a) ⌝ }
 {
     match a {
@@ -113,7 +113,7 @@ pub fn checked_direction(a: Direction) -> Direction
     }
 }
 
-pub fn checked_crossing(a: Crossing) -> Crossing
+pub(crate) fn checked_crossing(a: Crossing) -> Crossing
     ensures { λ r. ⌜ toldCrossing r ≡ checked9 noLanding landingFinite (toldCrossing a) ⌝ }
 {
     match a {

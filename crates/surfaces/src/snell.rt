@@ -50,7 +50,7 @@ fn mirror(i: Vec3, n: Vec3) -> Vec3
 }
 
 // The Rust's reflect.
-pub fn raw_reflect(incident: Vec3, normal: Vec3) -> Direction
+pub(crate) fn raw_reflect(incident: Vec3, normal: Vec3) -> Direction
     ensures { λ r. ⌜ toldDirection r ≡ reflected incident normal ⌝ }
 {
     if !(all_finite(incident) & all_finite(normal)) {
@@ -91,7 +91,7 @@ fn bend(i: Vec3, n: Vec3, eta: f64) -> Direction
 }
 
 // The Rust's snell_refract.
-pub fn raw_refract(incident: Vec3, normal: Vec3, n1: f64, n2: f64) -> Direction
+pub(crate) fn raw_refract(incident: Vec3, normal: Vec3, n1: f64, n2: f64) -> Direction
     ensures { λ r. ⌜ toldDirection r ≡ refracted incident normal n1 n2 ⌝ }
 {
     if !(all_finite(incident) & all_finite(normal) & is_finite(n1) & is_finite(n2)) {

@@ -53,7 +53,7 @@ pub struct Surface {
 }
 
 // The kinds that Newton's method meets.
-pub enum Profile {
+pub(crate) enum Profile {
     Even(f64, f64),
     Biconic(f64, f64, f64, f64),
     Toroid(f64, f64, f64),
@@ -67,7 +67,7 @@ pub enum Passed {
 }
 
 // How an intersection ended, after how many passes.
-pub struct End {
+pub(crate) struct End {
     pub crossing: Crossing,
     pub passes: u16,
 }
@@ -238,7 +238,7 @@ fn limited_pass(
 }
 
 // The Rust's intersect_ray of these kinds, with the passes that it took.
-pub fn newton(q: Profile, a: Coefficients, semi: f64, vertex: f64, ray: Ray) -> End
+pub(crate) fn newton(q: Profile, a: Coefficients, semi: f64, vertex: f64, ray: Ray) -> End
     ensures { λ e. ⌜ toldEnd e ≡ newtonEnd (shapeOf q a semi) vertex ray ⌝ }
 {
     let mut t = 0.0;

@@ -42,13 +42,13 @@ pub struct Coefficients {
     pub values: [f64; 8],
 }
 
-pub fn dot(a: Vec3, b: Vec3) -> f64
+pub(crate) fn dot(a: Vec3, b: Vec3) -> f64
     ensures { λ r. ⌜ r ≡ dotOf a b ⌝ }
 {
     a.x * b.x + a.y * b.y + a.z * b.z
 }
 
-pub fn over(a: Vec3, s: f64) -> Vec3
+pub(crate) fn over(a: Vec3, s: f64) -> Vec3
     ensures { λ r. ⌜ r ≡ overOf a s ⌝ }
 {
     Vec3 {
@@ -58,13 +58,13 @@ pub fn over(a: Vec3, s: f64) -> Vec3
     }
 }
 
-pub fn all_finite(a: Vec3) -> bool
+pub(crate) fn all_finite(a: Vec3) -> bool
     ensures { λ r. ⌜ r ≡ allFinite a ⌝ }
 {
     is_finite(a.x) & is_finite(a.y) & is_finite(a.z)
 }
 
-pub fn ray_finite(ray: Ray) -> bool
+pub(crate) fn ray_finite(ray: Ray) -> bool
     ensures { λ r. ⌜ r ≡ rayFinite ray ⌝ }
 {
     let o = ray.origin;
@@ -72,7 +72,7 @@ pub fn ray_finite(ray: Ray) -> bool
     all_finite(o) & all_finite(d)
 }
 
-pub fn point_at(ray: Ray, t: f64) -> Vec3
+pub(crate) fn point_at(ray: Ray, t: f64) -> Vec3
     ensures { λ r. ⌜ r ≡ pointAt ray t ⌝ }
 {
     Vec3 {
@@ -94,14 +94,14 @@ fn same(x: f64, y: f64) -> bool
 }
 
 // The root of x, given that of y: the same where x is y.
-pub fn root_again(x: f64, y: f64, s: f64) -> f64
+pub(crate) fn root_again(x: f64, y: f64, s: f64) -> f64
     ensures { λ r. ⌜ r ≡ rootAgain x y s ⌝ }
 {
     if same(x, y) { s } else { sqrt(x) }
 }
 
 // The root of x. Where y is the same number and known earlier, nobody waits for x.
-pub fn root_beside(x: f64, y: f64) -> f64
+pub(crate) fn root_beside(x: f64, y: f64) -> f64
     ensures { λ r. ⌜ r ≡ root x ⌝ }
 {
     root_again(x, y, sqrt(y))
@@ -125,14 +125,14 @@ fn first_finite(values: [f64; 8], n: usize) -> bool
 }
 
 // At most 8 coefficients, all of them finite.
-pub fn coefficients_good(a: Coefficients) -> bool
+pub(crate) fn coefficients_good(a: Coefficients) -> bool
     ensures { λ r. ⌜ r ≡ coefficientsGood a ⌝ }
 {
     let values = a.values;
     (a.count <= 8usize) & first_finite(values, a.count)
 }
 
-pub fn no_coefficients() -> Coefficients
+pub(crate) fn no_coefficients() -> Coefficients
     ensures { λ a. ⌜ a ≡ noCoefficients ⌝ }
 {
     Coefficients {

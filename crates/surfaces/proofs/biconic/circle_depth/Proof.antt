@@ -17,8 +17,8 @@ circle-depth-spec =
     (λ c κs. tt)
     (λ c. search needs)
     (λ c.
-      let c2 = c .before .before in let c4 = c2 .before .before in
-      rw (← c4 .edge-root-beside .ensures, c2 .s .given .1, ← c .sign-of .ensures))
+    let c2 = c .before .before in let c4 = c2 .before .before in
+    rw (← c4 .edge-root-beside .ensures, c2 .s .given .1, ← c .sign-of .ensures))
     (λ c.
-      let c1 = c .before in let c3 = c1 .before .before in
-      rw (← c3 .edge-root-beside .ensures, c1 .e .given .1, never-done)))
+    let c1 = c .before in let c3 = c1 .before .before in
+    rw (← c3 .edge-root-beside .ensures, c1 .e .given .1, never-done)))

@@ -20,8 +20,8 @@ toroid-depth-spec =
     (λ c κs. tt)
     (λ c. search needs)
     (λ c.
-      let c1 = c .before in let c2 = c1 .before in let c4 = c2 .before .before in let c6 = c4 .before .before in let c7 = c6 .before in
-      rw (← c7 .base-curve-radicand .ensures, ← c6 .edge-root .ensures, c4 .b .given .1, ← c2 .base-curve-sag .ensures, ← c .circle-depth .ensures))
+    let c1 = c .before in let c2 = c1 .before in let c4 = c2 .before .before in let c6 = c4 .before .before in let c7 = c6 .before in
+    rw (← c7 .base-curve-radicand .ensures, ← c6 .edge-root .ensures, c4 .b .given .1, ← c2 .base-curve-sag .ensures, ← c .circle-depth .ensures))
     (λ c.
-      let c1 = c .before in let c3 = c1 .before .before in let c4 = c3 .before in
-      rw (← c4 .base-curve-radicand .ensures, ← c3 .edge-root .ensures, c1 .e .given .1, never-done)))
+    let c1 = c .before in let c3 = c1 .before .before in let c4 = c3 .before in
+    rw (← c4 .base-curve-radicand .ensures, ← c3 .edge-root .ensures, c1 .e .given .1, never-done)))

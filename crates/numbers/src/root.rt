@@ -76,9 +76,24 @@ fn is_nearest(m: u64, q: u64) -> bool
     false
 }
 
+// A float near √(1 + v), for a v within 1/32 of 0: 1 + v/2 - v² (1/8 - v/16 + ..), of which 1 + v/2 is kept in two parts. Nothing is
+// promised of it.
+fn guess_near_one(v: f64) -> f64 {
+    let v2 = v * v;
+    let v4 = v2 * v2;
+    let half = v * 0.5;
+    let upper = 1.0 + half;
+    let lower = 1.0 - upper + half;
+    let a = 0.125 - 0.0625 * v + (0.039062499999999375 - 0.02734374999999945 * v) * v2;
+    let b = 0.020507812505108226 - 0.016113281254518958 * v
+        + (0.013092026371944643 - 0.010910021225290037 * v) * v2;
+    let c = 0.00929065949792448 - 0.008024111095079119 * v;
+    upper + (lower - v2 * (a + (b + c * v4) * v4))
+}
+
 // A float near √x, for an x whose pattern is b: the nearest but for about one in four thousand. Nothing is promised of it.
 // bench/fit-guess says where the numbers come from.
-fn guess(x: f64, b: u64) -> f64
+fn guess_anywhere(x: f64, b: u64) -> f64
     requires { ⌜ b < 0x7ff0_0000_0000_0000 ⌝ }
 {
     // y is near 0.85 / √x, and a cubic in x * y * y makes good what that differs by: h is √x to 21 binary digits
@@ -98,6 +113,17 @@ fn guess(x: f64, b: u64) -> f64
         return g + (x - g * g) * j * (1.7500000000002907 - (g + half) * j);
     }
     h
+}
+
+fn guess(x: f64, b: u64) -> f64
+    requires { ⌜ b < 0x7ff0_0000_0000_0000 ⌝ }
+{
+    let v = x - 1.0;
+    if v * v < 0.0009765625 {
+        guess_near_one(v)
+    } else {
+        guess_anywhere(x, b)
+    }
 }
 
 // A number of n units, where n * 2^1074 is m * 2^52 * 2^(2k), and a guess at its root, or 0.

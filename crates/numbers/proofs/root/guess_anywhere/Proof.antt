@@ -1,4 +1,4 @@
--- `numbers::root::guess` is safe: its two patterns are no NaN's. Assumes nothing.
+-- `numbers::root::guess_anywhere` is safe: its two patterns are no NaN's. Assumes nothing.
 use Prim.Native.Nat.{_-_, _/_}
 use native.Mathlib.Omega.{arith}
 use lib.Ieee.{binary64}
@@ -6,8 +6,8 @@ use lib.Ieee.Fits.{mul-fits}
 use Rattle.numbers.proofs.Patterns.{within, bounded}
 use Rattle.numbers.proofs.Signs.{positive, no-nan}
 use borrow.Author.Needs.{needs}
-use Rattle.numbers.proofs.root.guess.Statement.{statement}
-use Rattle.numbers.proofs.root.guess.Tie as tie
+use Rattle.numbers.proofs.root.guess_anywhere.Statement.{statement}
+use Rattle.numbers.proofs.root.guess_anywhere.Tie as tie
 
 sub-y : tie.Need-sub-y
 sub-y c = search needs
@@ -30,7 +30,7 @@ returns c = search needs
 returns-2 : tie.Need-returns-2
 returns-2 c = search needs
 
-pub guess-spec : {M : Type 1} → statement M
-guess-spec =
+pub guess-anywhere-spec : {M : Type 1} → statement M
+guess-anywhere-spec =
     tie.close
     (tie.spec sub-y float-from-bits-y float-to-bits-bits sub-g float-from-bits-g returns returns-2)

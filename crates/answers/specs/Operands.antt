@@ -1,5 +1,5 @@
 -- What is known of a question's operands. Definitions only.
-use Prim.Native.Nat.{ℕ, _+_, _≤_}
+use Prim.Native.Nat.{_+_, _≤_}
 use Rattle.answers.specs.declared.operands.Operands.{Operands}
 use Rattle.answers.specs.declared.operands.Operands.the-variants.{Plain, Marked, Unreadable}
 

@@ -1,8 +1,7 @@
 -- The decimal text is the one that `io::decimal` promises. Assumes nothing.
 use Prim.Native.Nat.{ℕ, zero, suc, _+_, _*_, _-_, _/_, _%_, _^_, _≤_, _<_}
-use mathlib.Core.List.{List, [], _∷_, _++_}
 use mathlib.Core.Path.{_≡_}
-use native.Mathlib.Nat.{le-div-iff-mul-le, div-lt-iff-lt-mul, mod-eq-of-lt, mod-lt, lt-of-not-le, one-le-pow, pow-le-pow-right, pow-succ'}
+use native.Mathlib.Nat.{mod-eq-of-lt, lt-of-not-le, one-le-pow, pow-le-pow-right, pow-succ'}
 use native.Mathlib.Omega.{arith}
 use lib.Dec.{lit<}
 use borrow.Author.Tests.{lt-ltb, le-ltb}

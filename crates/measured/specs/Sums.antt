@@ -4,10 +4,9 @@ use lib.Ieee.{Float}
 use Rattle.numbers.specs.Arithmetic.{_+₆₄_, if_then_else_, 0f}
 use Rattle.surfaces.specs.Types.{vec}
 use Rattle.surfaces.specs.Told.{Told, done}
-use Rattle.surfaces.specs.Conic.{conicSurface, meetAnswer}
+use Rattle.surfaces.specs.Conic.{meetAnswer}
 use Rattle.surfaces.specs.Snell.{refractAnswer}
 use Rattle.surfaces.specs.Asphere.{evenCrossingAnswer, evenNormalAnswer}
-use Rattle.surfaces.specs.Biconic.{biconicCrossingAnswer, toroidCrossingAnswer}
 use Rattle.surfaces.specs.declared.types.Vec3.{Vec3}
 use Rattle.surfaces.specs.declared.types.Ray.{Ray}
 use Rattle.surfaces.specs.declared.types.Landing.{Landing}

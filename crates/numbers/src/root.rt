@@ -103,16 +103,13 @@ fn guess_anywhere(x: f64, b: u64) -> f64
     let l = 1.2117679640007424 - k;
     let p = k * k + 1.0642915305663447;
     let h = a * l * p;
-    if h > 0.0 {
-        // g has h's upper 26 digits, so that x - g * g is exact, and √x is g + (x - g * g) / (√x + g); half is √x / 2, j is 1 / (2√x),
-        // and j * (7/4 - (g + half) * j) is 1 / (√x + g) to 41 digits
-        let bits = f64::to_bits(h);
-        let g = f64::from_bits(bits - bits % 0x800_0000);
-        let half = a * 0.5 * l * p;
-        let j = y * 0.5 * l * p;
-        return g + (x - g * g) * j * (1.7500000000002907 - (g + half) * j);
-    }
-    h
+    // g is h to 25 or 26 digits, so that x - g * g is exact, and √x is g + (x - g * g) / (√x + g); half is √x / 2, j is 1 / (2√x), and
+    // j * (7/4 - (g + half) * j) is 1 / (√x + g) to 41 digits
+    let far = a * 268435456.0;
+    let g = h + far - far;
+    let half = a * 0.5 * l * p;
+    let j = y * 0.5 * l * p;
+    g + (x - g * g) * j * (1.7500000000002907 - (g + half) * j)
 }
 
 fn guess(x: f64, b: u64) -> f64

@@ -8,9 +8,9 @@ use lib.Ieee.Scale.{finite}
 use Rattle.numbers.specs.Arithmetic.{_+₆₄_, _-₆₄_, _*₆₄_, _/₆₄_, _<₆₄_, _≤₆₄_, if_then_else_, 0f, 1f, 2f, 1e-12, 1e-14, 1e-15}
 use Rattle.numbers.specs.Basic.{magnitude, larger}
 use Rattle.numbers.specs.Sqrt.{root}
-use Rattle.surfaces.specs.Types.{vec, zeros, backwards, distance, allFinite, rayFinite, meridians, noMeridians, noLanding, landingFinite, terms, coefficientsGood}
-use Rattle.surfaces.specs.Told.{Told, Depths, plain, gives, refused, after, checked9, noNumber, noDirection, noCrossing, noEven, noOdd, depths, noDepths, noDepth, sagOf}
-use Rattle.surfaces.specs.Newton.{Shape, newtonEnd}
+use Rattle.surfaces.specs.Types.{vec, zeros, backwards, distance, allFinite, meridians, noMeridians, terms, coefficientsGood}
+use Rattle.surfaces.specs.Told.{handedOut, accepted, Told, Depths, gives, refused, after, noNumber, noDirection, noEven, noOdd, depths, noDepths, noDepth, sagOf}
+use Rattle.surfaces.specs.Newton.{newtonAnswer, Shape}
 use Rattle.surfaces.specs.declared.types.Vec3.{Vec3}
 use Rattle.surfaces.specs.declared.types.Ray.{Ray}
 use Rattle.surfaces.specs.declared.types.Landing.{Landing}
@@ -75,17 +75,17 @@ evenSlope c k a r =
     if not (finite r) || (r <₆₄ 0f) then noNumber 2 else
     after 0f (baseRoot c k (r *₆₄ r)) (evenSlopeFrom c a r)
 
--- a radial slope in x and y: none near the axis
-unfoldable pub radialSlopes : Float → Float → Float → Float → Meridians
-radialSlopes d x y r = if 1e-14 <₆₄ r then meridians (d *₆₄ (x /₆₄ r)) (d *₆₄ (y /₆₄ r)) else noMeridians
+-- a radial slope in x and y, and what it is near the axis
+unfoldable pub radialSlopes : Meridians → Float → Float → Float → Float → Meridians
+radialSlopes near d x y r = if 1e-14 <₆₄ r then meridians (d *₆₄ (x /₆₄ r)) (d *₆₄ (y /₆₄ r)) else near
 
 -- the slopes of EvenAsphere::intersect_ray
 unfoldable pub evenSlopes : Float → Float → Coefficients → Float → Float → Float → Told Meridians
-evenSlopes c k a x y r = after noMeridians (evenSlope c k a r) (λ d. gives (radialSlopes d x y r))
+evenSlopes c k a x y r = after noMeridians (evenSlope c k a r) (λ d. gives (radialSlopes noMeridians d x y r))
 
 -- the same, given the base's root at r
 unfoldable pub evenSlopesFrom : Float → Coefficients → Float → Float → Float → Float → Told Meridians
-evenSlopesFrom c a x y r s = after noMeridians (evenSlopeFrom c a r s) (λ d. gives (radialSlopes d x y r))
+evenSlopesFrom c a x y r s = after noMeridians (evenSlopeFrom c a r s) (λ d. gives (radialSlopes noMeridians d x y r))
 
 -- a surface with these slopes: the length of (slopes, -1), and the unit normal towards -z
 unfoldable pub lengthOf : Float → Float → Float
@@ -124,22 +124,16 @@ evenGood s = finite (s .curvature) && finite (s .conic) && finite (s .semi) && c
 unfoldable pub newEven : Float → Float → Coefficients → Float → Told EvenAsphere
 newEven c k a semi =
     let s : EvenAsphere = record { curvature = c; conic = k; semi = semi; coefficients = a } in
-    if not (evenGood s) || (semi <₆₄ 0f) then refused noEven (plain 2) else gives s
+    accepted noEven (evenGood s) semi s
 
 unfoldable pub evenSagAnswer : EvenAsphere → Float → Told Float
-evenSagAnswer s r =
-    if not (finite r && evenGood s) then noNumber 2 else
-    checked9 0f finite (sagOf (evenDepth (s .curvature) (s .conic) (s .coefficients) r))
+evenSagAnswer s r = handedOut 2 0f finite (finite r && evenGood s) (sagOf (evenDepth (s .curvature) (s .conic) (s .coefficients) r))
 
 unfoldable pub evenSlopeAnswer : EvenAsphere → Float → Told Float
-evenSlopeAnswer s r =
-    if not (finite r && evenGood s) then noNumber 2 else
-    checked9 0f finite (evenSlope (s .curvature) (s .conic) (s .coefficients) r)
+evenSlopeAnswer s r = handedOut 2 0f finite (finite r && evenGood s) (evenSlope (s .curvature) (s .conic) (s .coefficients) r)
 
 unfoldable pub evenNormalAnswer : EvenAsphere → Float → Float → Told Vec3
-evenNormalAnswer s x y =
-    if not (finite x && finite y && evenGood s) then noDirection 2 else
-    checked9 zeros allFinite (evenNormal (s .curvature) (s .conic) (s .coefficients) x y)
+evenNormalAnswer s x y = handedOut 2 zeros allFinite (finite x && finite y && evenGood s) (evenNormal (s .curvature) (s .conic) (s .coefficients) x y)
 
 -- the first coefficient, 0 where there is none
 abbrev pub firstOr0 : List Float → Float
@@ -147,15 +141,10 @@ firstOr0 [] = 0f
 firstOr0 (a ∷ l) = a
 
 unfoldable pub evenParaxial : EvenAsphere → Told Float
-evenParaxial s =
-    if not (evenGood s) then noNumber 2 else
-    checked9 0f finite (gives (s .curvature +₆₄ 2f *₆₄ firstOr0 (terms (s .coefficients))))
+evenParaxial s = handedOut 2 0f finite (evenGood s) (gives (s .curvature +₆₄ 2f *₆₄ firstOr0 (terms (s .coefficients))))
 
 unfoldable pub evenCrossingAnswer : EvenAsphere → Ray → Float → Told Landing
-evenCrossingAnswer s ray vertex =
-    if not (rayFinite ray && finite vertex && evenGood s) then noCrossing 2 else
-    if s .semi <₆₄ 0f then noCrossing 2 else
-    checked9 noLanding landingFinite (newtonEnd (evenShape (s .curvature) (s .conic) (s .coefficients) (s .semi)) vertex ray .answer)
+evenCrossingAnswer s ray vertex = newtonAnswer (evenGood s) (evenShape (s .curvature) (s .conic) (s .coefficients) (s .semi)) ray vertex
 
 -- OddAsphere::sag
 unfoldable pub oddSag : OddAsphere → Float → Told Float
@@ -174,17 +163,13 @@ oddSlope s r =
     after 0f (baseRoot (s .curvature) (s .conic) r2) (λ t.
     gives (oddBaseSlope (s .curvature) r t +₆₄ slopeSum (terms (s .even)) 2f r r2 +₆₄ slopeSum (terms (s .odd)) 1f 1f r2))
 
--- near the axis the slope counts as along x
-unfoldable pub oddSlopes : Float → Float → Float → Float → Meridians
-oddSlopes d x y r = if 1e-14 <₆₄ r then meridians (d *₆₄ (x /₆₄ r)) (d *₆₄ (y /₆₄ r)) else meridians d 0f
-
--- OddAsphere::normal
+-- OddAsphere::normal; near the axis the slope counts as along x
 unfoldable pub oddNormal : OddAsphere → Float → Float → Told Vec3
 oddNormal s x y =
     let r = distance x y in
     if (r <₆₄ 1e-15) && (magnitude (firstOr0 (terms (s .odd))) <₆₄ 1e-14) then gives backwards else
     after zeros (oddSlope s r) (λ d.
-    let m = oddSlopes d x y r in
+    let m = radialSlopes (meridians d 0f) d x y r in
     gives (facingOf (m .x) (m .y) (lengthOf (m .x) (m .y))))
 
 unfoldable pub oddGood : OddAsphere → Bool
@@ -193,14 +178,10 @@ oddGood s = finite (s .curvature) && finite (s .conic) && finite (s .semi) && co
 unfoldable pub newOdd : Float → Float → Coefficients → Coefficients → Float → Told OddAsphere
 newOdd c k even odd semi =
     let s : OddAsphere = record { curvature = c; conic = k; semi = semi; even = even; odd = odd } in
-    if not (oddGood s) || (semi <₆₄ 0f) then refused noOdd (plain 2) else gives s
+    accepted noOdd (oddGood s) semi s
 
 unfoldable pub oddSagAnswer : OddAsphere → Float → Told Float
-oddSagAnswer s r =
-    if not (finite r && oddGood s) then noNumber 2 else
-    checked9 0f finite (oddSag s r)
+oddSagAnswer s r = handedOut 2 0f finite (finite r && oddGood s) (oddSag s r)
 
 unfoldable pub oddNormalAnswer : OddAsphere → Float → Float → Told Vec3
-oddNormalAnswer s x y =
-    if not (finite x && finite y && oddGood s) then noDirection 2 else
-    checked9 zeros allFinite (oddNormal s x y)
+oddNormalAnswer s x y = handedOut 2 zeros allFinite (finite x && finite y && oddGood s) (oddNormal s x y)

@@ -1,14 +1,14 @@
 -- Biconic and toroidal surfaces. Definitions only.
-use mathlib.Core.Bool.{Bool, true, not, _&&_, _||_}
+use mathlib.Core.Bool.{Bool, true, not, _&&_}
 use lib.Ieee.{Float}
 use lib.Ieee.Scale.{finite}
 use Rattle.numbers.specs.Arithmetic.{_+₆₄_, _-₆₄_, _*₆₄_, _/₆₄_, _<₆₄_, _≤₆₄_, if_then_else_, 0f, 1f, 2f, 1e-14, 1e-15}
 use Rattle.numbers.specs.Basic.{magnitude, larger}
 use Rattle.numbers.specs.Sqrt.{root}
-use Rattle.surfaces.specs.Types.{zeros, rootAgain, allFinite, rayFinite, meridians, noMeridians, bothFinite, noLanding, landingFinite}
-use Rattle.surfaces.specs.Told.{Told, Depths, plain, gives, refused, after, checked9, noNumber, noPair, noDirection, noCrossing, noBiconic, noToroid, depths, noDepths, noDepth, sagOf}
+use Rattle.surfaces.specs.Types.{zeros, rootAgain, allFinite, meridians, noMeridians, bothFinite}
+use Rattle.surfaces.specs.Told.{handedOut, accepted, Told, Depths, gives, after, noPair, noBiconic, noToroid, depths, noDepths, noDepth, sagOf}
 use Rattle.surfaces.specs.Conic.{signOf}
-use Rattle.surfaces.specs.Newton.{Shape, newtonEnd}
+use Rattle.surfaces.specs.Newton.{newtonAnswer, Shape}
 use Rattle.surfaces.specs.Asphere.{edgeRoot, facingOf, lengthOf}
 use Rattle.surfaces.specs.declared.types.Vec3.{Vec3}
 use Rattle.surfaces.specs.declared.types.Ray.{Ray}
@@ -82,28 +82,19 @@ biconicGood s = finite (s .cx) && finite (s .kx) && finite (s .cy) && finite (s 
 unfoldable pub newBiconic : Float → Float → Float → Float → Float → Told BiconicSurface
 newBiconic cx kx cy ky semi =
     let s : BiconicSurface = record { cx = cx; kx = kx; cy = cy; ky = ky; semi = semi } in
-    if not (biconicGood s) || (semi <₆₄ 0f) then refused noBiconic (plain 2) else gives s
+    accepted noBiconic (biconicGood s) semi s
 
 unfoldable pub biconicSagAnswer : BiconicSurface → Float → Float → Told Float
-biconicSagAnswer s x y =
-    if not (finite x && finite y && biconicGood s) then noNumber 2 else
-    checked9 0f finite (sagOf (biconicDepth (s .cx) (s .kx) (s .cy) (s .ky) x y))
+biconicSagAnswer s x y = handedOut 2 0f finite (finite x && finite y && biconicGood s) (sagOf (biconicDepth (s .cx) (s .kx) (s .cy) (s .ky) x y))
 
 unfoldable pub biconicSlopesAnswer : BiconicSurface → Float → Float → Told Meridians
-biconicSlopesAnswer s x y =
-    if not (finite x && finite y && biconicGood s) then noPair 2 else
-    checked9 noMeridians bothFinite (biconicSlopes (s .cx) (s .kx) (s .cy) (s .ky) x y)
+biconicSlopesAnswer s x y = handedOut 2 noMeridians bothFinite (finite x && finite y && biconicGood s) (biconicSlopes (s .cx) (s .kx) (s .cy) (s .ky) x y)
 
 unfoldable pub biconicNormalAnswer : BiconicSurface → Float → Float → Told Vec3
-biconicNormalAnswer s x y =
-    if not (finite x && finite y && biconicGood s) then noDirection 2 else
-    checked9 zeros allFinite (biconicNormal (s .cx) (s .kx) (s .cy) (s .ky) x y)
+biconicNormalAnswer s x y = handedOut 2 zeros allFinite (finite x && finite y && biconicGood s) (biconicNormal (s .cx) (s .kx) (s .cy) (s .ky) x y)
 
 unfoldable pub biconicCrossingAnswer : BiconicSurface → Ray → Float → Told Landing
-biconicCrossingAnswer s ray vertex =
-    if not (rayFinite ray && finite vertex && biconicGood s) then noCrossing 2 else
-    if s .semi <₆₄ 0f then noCrossing 2 else
-    checked9 noLanding landingFinite (newtonEnd (biconicShape (s .cx) (s .kx) (s .cy) (s .ky) (s .semi)) vertex ray .answer)
+biconicCrossingAnswer s ray vertex = newtonAnswer (biconicGood s) (biconicShape (s .cx) (s .kx) (s .cy) (s .ky) (s .semi)) ray vertex
 
 unfoldable pub biconicParaxial : BiconicSurface → Told Meridians
 biconicParaxial s = if not (biconicGood s) then noPair 2 else gives (meridians (s .cx) (s .cy))
@@ -176,25 +167,16 @@ toroidGood s = finite (s .rx) && finite (s .cy) && finite (s .ky) && finite (s .
 unfoldable pub newToroid : Float → Float → Float → Float → Told ToroidalSurface
 newToroid rx cy ky semi =
     let s : ToroidalSurface = record { rx = rx; cy = cy; ky = ky; semi = semi } in
-    if not (toroidGood s) || (semi <₆₄ 0f) then refused noToroid (plain 2) else gives s
+    accepted noToroid (toroidGood s) semi s
 
 unfoldable pub toroidSagAnswer : ToroidalSurface → Float → Float → Told Float
-toroidSagAnswer s x y =
-    if not (finite x && finite y && toroidGood s) then noNumber 2 else
-    checked9 0f finite (sagOf (toroidDepth (s .rx) (s .cy) (s .ky) x y))
+toroidSagAnswer s x y = handedOut 2 0f finite (finite x && finite y && toroidGood s) (sagOf (toroidDepth (s .rx) (s .cy) (s .ky) x y))
 
 unfoldable pub toroidSlopesAnswer : ToroidalSurface → Float → Float → Told Meridians
-toroidSlopesAnswer s x y =
-    if not (finite x && finite y && toroidGood s) then noPair 2 else
-    checked9 noMeridians bothFinite (toroidSlopes (s .rx) (s .cy) (s .ky) x y)
+toroidSlopesAnswer s x y = handedOut 2 noMeridians bothFinite (finite x && finite y && toroidGood s) (toroidSlopes (s .rx) (s .cy) (s .ky) x y)
 
 unfoldable pub toroidNormalAnswer : ToroidalSurface → Float → Float → Told Vec3
-toroidNormalAnswer s x y =
-    if not (finite x && finite y && toroidGood s) then noDirection 2 else
-    checked9 zeros allFinite (toroidNormal (s .rx) (s .cy) (s .ky) x y)
+toroidNormalAnswer s x y = handedOut 2 zeros allFinite (finite x && finite y && toroidGood s) (toroidNormal (s .rx) (s .cy) (s .ky) x y)
 
 unfoldable pub toroidCrossingAnswer : ToroidalSurface → Ray → Float → Told Landing
-toroidCrossingAnswer s ray vertex =
-    if not (rayFinite ray && finite vertex && toroidGood s) then noCrossing 2 else
-    if s .semi <₆₄ 0f then noCrossing 2 else
-    checked9 noLanding landingFinite (newtonEnd (toroidShape (s .rx) (s .cy) (s .ky) (s .semi)) vertex ray .answer)
+toroidCrossingAnswer s ray vertex = newtonAnswer (toroidGood s) (toroidShape (s .rx) (s .cy) (s .ky) (s .semi)) ray vertex

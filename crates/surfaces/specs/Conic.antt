@@ -7,7 +7,7 @@ use Rattle.numbers.specs.Arithmetic.{_+₆₄_, _-₆₄_, _*₆₄_, _/₆₄_
 use Rattle.numbers.specs.Basic.{magnitude, larger, infinite}
 use Rattle.numbers.specs.Sqrt.{root}
 use Rattle.surfaces.specs.Types.{vec, zeros, backwards, dotOf, squaredLength, overOf, distance, pointAt, allFinite, rayFinite, landing, noLanding, noHit, hitFinite}
-use Rattle.surfaces.specs.Told.{Told, plain, vignetted, gives, refused, done, after, checked9, noNumber, noDirection, noCrossing, noConic}
+use Rattle.surfaces.specs.Told.{handedOut, Told, plain, vignetted, gives, refused, done, after, checked9, noNumber, noDirection, noCrossing, noConic}
 use Rattle.surfaces.specs.declared.types.Vec3.{Vec3}
 use Rattle.surfaces.specs.declared.types.Ray.{Ray}
 use Rattle.surfaces.specs.declared.types.Landing.{Landing}
@@ -79,9 +79,7 @@ unfoldable pub conicFinite : ConicSurface → Bool
 conicFinite s = finite (s .vertex) && finite (s .curvature) && finite (s .conic) && finite (s .semi)
 
 unfoldable pub conicNormalAnswer : Vec3 → ConicSurface → Told Vec3
-conicNormalAnswer p s =
-    if not (allFinite p && conicFinite s) then noDirection 4 else
-    checked9 zeros allFinite (conicNormal p s)
+conicNormalAnswer p s = handedOut 4 zeros allFinite (allFinite p && conicFinite s) (conicNormal p s)
 
 -- a landing at t, unless r is beyond the semi-diameter
 unfoldable pub landedWithin : Float → Vec3 → Float → Float → Told Landing

@@ -3,10 +3,11 @@ use Prim.Native.Nat.{ℕ, zero, suc, _+_}
 use mathlib.Core.Bool.{Bool, not, _&&_}
 use lib.Dec.{eqb, leb}
 use lib.Ieee.{Float}
+use lib.Ieee.Scale.{finite}
 use Rattle.numbers.specs.Arithmetic.{_+₆₄_, _-₆₄_, _*₆₄_, _/₆₄_, _<₆₄_, if_then_else_, 0f, 1½, 1e-11, 1e-12, 1e-15}
 use Rattle.numbers.specs.Basic.{magnitude}
-use Rattle.surfaces.specs.Types.{distance, pointAt, landing}
-use Rattle.surfaces.specs.Told.{Told, Depths, Ended, gives, done, again, ended, noCrossing}
+use Rattle.surfaces.specs.Types.{distance, pointAt, landing, noLanding, landingFinite, rayFinite}
+use Rattle.surfaces.specs.Told.{handedOut, Told, Depths, Ended, gives, done, again, ended, noCrossing}
 use Rattle.surfaces.specs.Conic.{landedWithin}
 use Rattle.surfaces.specs.declared.types.Vec3.{Vec3}
 use Rattle.surfaces.specs.declared.types.Ray.{Ray}
@@ -73,6 +74,13 @@ unfoldable pub newtonEnd : Shape → Float → Ray → Ended
 newtonEnd q vertex ray =
     if magnitude (ray .direction .z) <₆₄ 1e-15 then ended (noCrossing 6) 1 else
     passesFrom q vertex ray (q .limit) 0 (vertexPlane vertex ray)
+
+-- what a single intersection tests before it: all numbers finite, and no negative semi-diameter
+abbrev pub canBeMet : Bool → Float → Ray → Float → Bool
+canBeMet good semi ray vertex = rayFinite ray && finite vertex && good && not (semi <₆₄ 0f)
+
+abbrev pub newtonAnswer : Bool → Shape → Ray → Float → Told Landing
+newtonAnswer good q ray vertex = handedOut 2 noLanding landingFinite (canBeMet good (q .semi) ray vertex) (newtonEnd q vertex ray .answer)
 
 -- the pass after `made` passes: the test of dz and the start at the vertex plane belong to the first
 unfoldable pub nextPass : Shape → Float → Ray → ℕ → Float → Told Landing

@@ -1,11 +1,11 @@
 -- What comes back, in document 01's terms: a line of its table and the answer's values. The rules speak in these terms, and what each answer of the
 -- code tells stands below. Definitions only.
 use Prim.Native.Nat.{ℕ}
-use mathlib.Core.Bool.{Bool, false, not, _&&_}
+use mathlib.Core.Bool.{Bool, false, not, _&&_, _||_}
 use mathlib.Core.Path.{_≡_}
 use lib.Dec.{eqb}
 use lib.Ieee.{Float}
-use Rattle.numbers.specs.Arithmetic.{if_then_else_, 0f}
+use Rattle.numbers.specs.Arithmetic.{_<₆₄_, if_then_else_, 0f}
 use Rattle.surfaces.specs.Types.{zeros, noMeridians, landing, noLanding, noHit, noCoefficients}
 use Rattle.surfaces.specs.declared.types.Vec3.{Vec3}
 use Rattle.surfaces.specs.declared.types.Landing.{Landing}
@@ -34,6 +34,8 @@ use Rattle.surfaces.specs.declared.asphere.EvenAsphere.{EvenAsphere}
 use Rattle.surfaces.specs.declared.asphere.NewEven.{NewEven}
 use Rattle.surfaces.specs.declared.asphere.OddAsphere.{OddAsphere}
 use Rattle.surfaces.specs.declared.asphere.NewOdd.{NewOdd}
+use Rattle.surfaces.specs.declared.asphere.Root.{Root}
+use Rattle.surfaces.specs.declared.asphere.Root.the-variants as rooted
 use Rattle.surfaces.specs.declared.asphere.Depth.{Depth}
 use Rattle.surfaces.specs.declared.asphere.Depth.the-variants as depth
 use Rattle.surfaces.specs.declared.biconic.BiconicSurface.{BiconicSurface}
@@ -84,6 +86,14 @@ after blank t next = if done t then next (t .value) else refused blank (t .line)
 -- 9 comes last: an answer with a number that is not finite
 abbrev pub checked9 : {A : Type 0} → A → (A → Bool) → Told A → Told A
 checked9 blank good t = if done t && not (good (t .value)) then refused blank (plain 9) else t
+
+-- what a public function hands out: its refusal n of arguments that are not good, else the raw answer with 9 behind it
+abbrev pub handedOut : {A : Type 0} → ℕ → A → (A → Bool) → Bool → Told A → Told A
+handedOut n blank fine good t = if not good then refused blank (plain n) else checked9 blank fine t
+
+-- a surface that a constructor accepts unless one of its numbers is bad or its semi-diameter negative
+abbrev pub accepted : {A : Type 0} → A → Bool → Float → A → Told A
+accepted blank good semi s = if not good || (semi <₆₄ 0f) then refused blank (plain 2) else gives s
 
 -- a refusal by number alone, in place of each kind of answer
 abbrev pub noNumber : ℕ → Told Float
@@ -187,9 +197,14 @@ noDepths = depths 0f 0f 0f 0f
 abbrev pub noDepth : ℕ → Told Depths
 noDepth n = refused noDepths (plain n)
 
+abbrev pub toldRoot : Root → Told Float
+toldRoot (rooted.Is s) = gives s
+toldRoot rooted.Outside = noNumber 5
+
 abbrev pub toldDepth : Depth → Told Depths
 toldDepth (depth.At z s p b) = gives (depths z s p b)
-toldDepth (depth.Refused e) = refused noDepths (lineOf e)
+toldDepth depth.Outside = noDepth 5
+toldDepth depth.Invalid = noDepth 2
 
 unfoldable pub sagOf : Told Depths → Told Float
 sagOf d = record { line = d .line; value = d .value .sag }

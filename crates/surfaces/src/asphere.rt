@@ -1,9 +1,9 @@
 // Even and odd aspheres: a conic base and a sum of powers of r.
 ghost use mathlib.Core.Path.{_≡_};
 ghost use lib.ListN.{take};
-ghost use Rattle.surfaces.specs.Types.{noCoefficients, terms};
-ghost use Rattle.surfaces.specs.Told.{toldNumber, toldSag, toldPair, toldDirection, toldCrossing, toldDepth, toldEven, toldOdd, sagOf};
-ghost use Rattle.surfaces.specs.Asphere.{powerSum, slopeSum, firstOr0, edgeRoot, baseRoot, baseSag, baseSlope, evenDepth, evenSlopeFrom, evenSlope, radialSlopes, evenSlopesFrom, lengthOf, facingOf, evenFacing, evenNormal, evenGood, newEven, evenSagAnswer, evenSlopeAnswer, evenNormalAnswer, evenParaxial, evenCrossingAnswer, oddGood, newOdd, oddSag, oddSagAnswer, oddSlope, oddBaseSlope, oddSlopes, oddNormal, oddNormalAnswer};
+ghost use Rattle.surfaces.specs.Types.{terms};
+ghost use Rattle.surfaces.specs.Told.{toldNumber, toldSag, toldPair, toldDirection, toldCrossing, toldRoot, toldDepth, toldEven, toldOdd, sagOf};
+ghost use Rattle.surfaces.specs.Asphere.{powerSum, slopeSum, firstOr0, edgeRoot, baseRoot, baseSag, baseSlope, evenDepth, evenSlopeFrom, evenSlope, radialSlopes, evenSlopesFrom, lengthOf, facingOf, evenFacing, evenNormal, evenGood, newEven, evenSagAnswer, evenSlopeAnswer, evenNormalAnswer, evenParaxial, evenCrossingAnswer, oddGood, newOdd, oddSag, oddSagAnswer, oddSlope, oddBaseSlope, oddNormal, oddNormalAnswer};
 use crate::refusal::Crossing;
 use crate::refusal::Direction;
 use crate::refusal::Number;
@@ -16,6 +16,7 @@ use crate::refusal::checked_direction;
 use crate::refusal::checked_number;
 use crate::refusal::checked_sag;
 use crate::surface::Profile;
+use crate::surface::can_be_met;
 use crate::surface::newton;
 use crate::types::Coefficients;
 use crate::types::Meridians;
@@ -23,7 +24,6 @@ use crate::types::Ray;
 use crate::types::Vec3;
 use crate::types::coefficients_good;
 use crate::types::no_coefficients;
-use crate::types::ray_finite;
 use crate::types::root_beside;
 use numbers::abs;
 use numbers::is_finite;
@@ -45,35 +45,42 @@ pub struct NewEven {
 }
 
 // A raw sag, with what the slopes at the same point need of it: its root; an even asphere's r, a biconic's numerator or a toroid's
-// circle; and the root of a toroid's base curve.
+// circle; and the root of a toroid's base curve. It names its refusals itself: a Refusal in here would slow down every pass.
 pub(crate) enum Depth {
     At(f64, f64, f64, f64),
-    Refused(Refusal),
+    Outside,
+    Invalid,
+}
+
+// The root of a radicand, or that the point is outside.
+pub(crate) enum Root {
+    Is(f64),
+    Outside,
 }
 
 // The root in every sag but the conic's: a radicand a little below 0 counts as 0.
-pub(crate) fn edge_root(radicand: f64) -> Number
-    ensures { λ r. ⌜ toldNumber r ≡ edgeRoot radicand ⌝ }
+pub(crate) fn edge_root(radicand: f64) -> Root
+    ensures { λ r. ⌜ toldRoot r ≡ edgeRoot radicand ⌝ }
 {
     edge_root_beside(radicand, radicand)
 }
 
 // The same, where `near` is a guess at the radicand that is known earlier.
-pub(crate) fn edge_root_beside(radicand: f64, near: f64) -> Number
-    ensures { λ r. ⌜ toldNumber r ≡ edgeRoot radicand ⌝ }
+pub(crate) fn edge_root_beside(radicand: f64, near: f64) -> Root
+    ensures { λ r. ⌜ toldRoot r ≡ edgeRoot radicand ⌝ }
 {
     if radicand < -1e-12 {
-        return Number::Refused(Refusal::GeometryOutsideAperture);
+        return Root::Outside;
     }
-    Number::Is(root_beside(max(radicand, 0.0), max(near, 0.0)))
+    Root::Is(root_beside(max(radicand, 0.0), max(near, 0.0)))
 }
 
 // The base's root, which is 1 where the base is flat. `near` is a guess at r2, which shortens the wait and changes no answer.
-fn base_root(c: f64, k: f64, r2: f64, near: f64) -> Number
-    ensures { λ r. ⌜ toldNumber r ≡ baseRoot c k r2 ⌝ }
+fn base_root(c: f64, k: f64, r2: f64, near: f64) -> Root
+    ensures { λ r. ⌜ toldRoot r ≡ baseRoot c k r2 ⌝ }
 {
     if abs(c) < 1e-15 {
-        return Number::Is(1.0);
+        return Root::Is(1.0);
     }
     edge_root_beside(1.0 - (1.0 + k) * c * c * r2, 1.0 - (1.0 + k) * c * c * near)
 }
@@ -142,12 +149,12 @@ pub(crate) fn even_depth(c: f64, k: f64, a: Coefficients, r: f64, near: f64) -> 
     ensures { λ d. ⌜ toldDepth d ≡ evenDepth c k a r ⌝ }
 {
     if !is_finite(r) | (r < 0.0) {
-        return Depth::Refused(Refusal::InvalidParameter);
+        return Depth::Invalid;
     }
     let r2 = r * r;
     let values = a.values;
     match base_root(c, k, r2, near) {
-        Number::Is(s) => {
+        Root::Is(s) => {
             Depth::At(
                 base_sag(c, r2, s) + power_sum(values, a.count, r2, r2),
                 s,
@@ -155,7 +162,7 @@ pub(crate) fn even_depth(c: f64, k: f64, a: Coefficients, r: f64, near: f64) -> 
                 0.0,
             )
         }
-        Number::Refused(e) => Depth::Refused(e),
+        Root::Outside => Depth::Outside,
     }
 }
 
@@ -178,14 +185,14 @@ fn even_slope(c: f64, k: f64, a: Coefficients, r: f64) -> Number
         return Number::Refused(Refusal::InvalidParameter);
     }
     match base_root(c, k, r * r, r * r) {
-        Number::Is(s) => even_slope_from(c, a, r, s),
-        Number::Refused(e) => Number::Refused(e),
+        Root::Is(s) => even_slope_from(c, a, r, s),
+        Root::Outside => Number::Refused(Refusal::GeometryOutsideAperture),
     }
 }
 
-// A radial slope in x and y, none near the axis.
-fn radial_slopes(d: f64, x: f64, y: f64, r: f64) -> Meridians
-    ensures { λ m. ⌜ m ≡ radialSlopes d x y r ⌝ }
+// A radial slope in x and y, or what it is near the axis.
+fn radial_slopes(near: Meridians, d: f64, x: f64, y: f64, r: f64) -> Meridians
+    ensures { λ m. ⌜ m ≡ radialSlopes near d x y r ⌝ }
 {
     if r > 1e-14 {
         Meridians {
@@ -193,7 +200,7 @@ fn radial_slopes(d: f64, x: f64, y: f64, r: f64) -> Meridians
             y: d * (y / r),
         }
     } else {
-        Meridians { x: 0.0, y: 0.0 }
+        near
     }
 }
 
@@ -202,7 +209,7 @@ pub(crate) fn even_slopes_from(c: f64, a: Coefficients, x: f64, y: f64, r: f64, 
     ensures { λ m. ⌜ toldPair m ≡ evenSlopesFrom c a x y r s ⌝ }
 {
     match even_slope_from(c, a, r, s) {
-        Number::Is(d) => Pair::Both(radial_slopes(d, x, y, r)),
+        Number::Is(d) => Pair::Both(radial_slopes(Meridians { x: 0.0, y: 0.0 }, d, x, y, r)),
         Number::Refused(e) => Pair::Refused(e),
     }
 }
@@ -335,20 +342,12 @@ impl EvenAsphere {
     pub fn intersect_ray(self, ray: Ray, vertex: f64) -> Crossing
         ensures { λ x. ⌜ toldCrossing x ≡ evenCrossingAnswer self ray vertex ⌝ }
     {
-        if !(ray_finite(ray) & is_finite(vertex) & self.is_good()) {
-            return Crossing::Refused(Refusal::InvalidParameter);
-        }
-        if self.semi < 0.0 {
+        if !can_be_met(self.is_good(), self.semi, ray, vertex) {
             return Crossing::Refused(Refusal::InvalidParameter);
         }
         let a = self.coefficients;
-        let end = newton(
-            Profile::Even(self.curvature, self.conic),
-            a,
-            self.semi,
-            vertex,
-            ray,
-        );
+        let profile = Profile::Even(self.curvature, self.conic);
+        let end = newton(profile, a, self.semi, vertex, ray);
         let crossing = end.crossing;
         checked_crossing(crossing)
     }
@@ -359,7 +358,8 @@ pub(crate) fn sag_of(d: Depth) -> Sag
 {
     match d {
         Depth::At(z, _, _, _) => Sag::At(z),
-        Depth::Refused(e) => Sag::Refused(e),
+        Depth::Outside => Sag::Refused(Refusal::GeometryOutsideAperture),
+        Depth::Invalid => Sag::Refused(Refusal::InvalidParameter),
     }
 }
 
@@ -394,14 +394,14 @@ fn odd_sag(s: OddAsphere, r: f64) -> Sag
     let even = s.even.values;
     let odd = s.odd.values;
     match base_root(s.curvature, s.conic, r2, r2) {
-        Number::Is(root) => {
+        Root::Is(root) => {
             Sag::At(
                 base_sag(s.curvature, r2, root)
                     + power_sum(even, s.even.count, r2, r2)
                     + power_sum(odd, s.odd.count, r, r2),
             )
         }
-        Number::Refused(e) => Sag::Refused(e),
+        Root::Outside => Sag::Refused(Refusal::GeometryOutsideAperture),
     }
 }
 
@@ -423,32 +423,18 @@ fn odd_slope(s: OddAsphere, r: f64) -> Number
     let even = s.even.values;
     let odd = s.odd.values;
     match base_root(s.curvature, s.conic, r2, r2) {
-        Number::Is(root) => {
+        Root::Is(root) => {
             Number::Is(
                 odd_base_slope(s.curvature, r, root)
                     + slope_sum(even, s.even.count, 2.0, r, r2)
                     + slope_sum(odd, s.odd.count, 1.0, 1.0, r2),
             )
         }
-        Number::Refused(e) => Number::Refused(e),
+        Root::Outside => Number::Refused(Refusal::GeometryOutsideAperture),
     }
 }
 
-// Near the axis the slope counts as along x.
-fn odd_slopes(d: f64, x: f64, y: f64, r: f64) -> Meridians
-    ensures { λ m. ⌜ m ≡ oddSlopes d x y r ⌝ }
-{
-    if r > 1e-14 {
-        Meridians {
-            x: d * (x / r),
-            y: d * (y / r),
-        }
-    } else {
-        Meridians { x: d, y: 0.0 }
-    }
-}
-
-// The Rust's OddAsphere::normal.
+// The Rust's OddAsphere::normal. Near the axis the slope counts as along x.
 fn odd_normal(s: OddAsphere, x: f64, y: f64) -> Direction
     ensures { λ v. ⌜ toldDirection v ≡ oddNormal s x y ⌝ }
 {
@@ -463,7 +449,7 @@ fn odd_normal(s: OddAsphere, x: f64, y: f64) -> Direction
     }
     match odd_slope(s, r) {
         Number::Is(d) => {
-            let m = odd_slopes(d, x, y, r);
+            let m = radial_slopes(Meridians { x: d, y: 0.0 }, d, x, y, r);
             Direction::To(facing(m.x, m.y, length_of(m.x, m.y)))
         }
         Number::Refused(e) => Direction::Refused(e),

@@ -1,9 +1,10 @@
 // Biconic and toroidal surfaces.
 ghost use mathlib.Core.Path.{_≡_};
-ghost use Rattle.surfaces.specs.Told.{toldNumber, toldSag, toldPair, toldDirection, toldCrossing, toldDepth, toldBiconic, toldToroid};
+ghost use Rattle.surfaces.specs.Told.{toldSag, toldPair, toldDirection, toldCrossing, toldDepth, toldBiconic, toldToroid};
 ghost use Rattle.surfaces.specs.Conic.{radiusOf};
 ghost use Rattle.surfaces.specs.Biconic.{numeratorOf, biconicRadicand, biconicDepth, onAxis, meridianSlope, biconicSlopesAt, biconicSlopesFrom, biconicSlopes, biconicNormal, biconicGood, newBiconic, biconicSagAnswer, biconicSlopesAnswer, biconicNormalAnswer, biconicCrossingAnswer, biconicParaxial, baseCurveSag, toroidDepth, baseCurveSlope, circleDepth, circleSlopesAt, circleSlopes, toroidSlopesFrom, toroidSlopes, toroidNormal, toroidGood, newToroid, toroidSagAnswer, toroidSlopesAnswer, toroidNormalAnswer, toroidCrossingAnswer, normalOf, baseCurveRadicand, slopeRadicand};
 use crate::asphere::Depth;
+use crate::asphere::Root;
 use crate::asphere::edge_root;
 use crate::asphere::edge_root_beside;
 use crate::asphere::facing;
@@ -13,7 +14,6 @@ use crate::conic::radius_of;
 use crate::conic::sign_of;
 use crate::refusal::Crossing;
 use crate::refusal::Direction;
-use crate::refusal::Number;
 use crate::refusal::Pair;
 use crate::refusal::Refusal;
 use crate::refusal::Sag;
@@ -22,11 +22,11 @@ use crate::refusal::checked_direction;
 use crate::refusal::checked_pair;
 use crate::refusal::checked_sag;
 use crate::surface::Profile;
+use crate::surface::can_be_met;
 use crate::surface::newton;
 use crate::types::Meridians;
 use crate::types::Ray;
 use crate::types::no_coefficients;
-use crate::types::ray_finite;
 use crate::types::root_again;
 use numbers::abs;
 use numbers::is_finite;
@@ -63,12 +63,12 @@ pub(crate) fn biconic_depth(cx: f64, kx: f64, cy: f64, ky: f64, x: f64, y: f64) 
     ensures { λ d. ⌜ toldDepth d ≡ biconicDepth cx kx cy ky x y ⌝ }
 {
     if !(is_finite(x) & is_finite(y)) {
-        return Depth::Refused(Refusal::InvalidParameter);
+        return Depth::Invalid;
     }
     let num = numerator(cx, cy, x, y);
     match edge_root(biconic_radicand(cx, kx, cy, ky, x, y)) {
-        Number::Is(s) => Depth::At(num / (1.0 + s), s, num, 0.0),
-        Number::Refused(e) => Depth::Refused(e),
+        Root::Is(s) => Depth::At(num / (1.0 + s), s, num, 0.0),
+        Root::Outside => Depth::Outside,
     }
 }
 
@@ -126,8 +126,8 @@ fn biconic_slopes(cx: f64, kx: f64, cy: f64, ky: f64, x: f64, y: f64) -> Pair
         return Pair::Both(Meridians { x: 0.0, y: 0.0 });
     }
     match edge_root(biconic_radicand(cx, kx, cy, ky, x, y)) {
-        Number::Is(s) => biconic_slopes_at(cx, kx, cy, ky, x, y, numerator(cx, cy, x, y), s),
-        Number::Refused(e) => Pair::Refused(e),
+        Root::Is(s) => biconic_slopes_at(cx, kx, cy, ky, x, y, numerator(cx, cy, x, y), s),
+        Root::Outside => Pair::Refused(Refusal::GeometryOutsideAperture),
     }
 }
 
@@ -217,10 +217,7 @@ impl BiconicSurface {
     pub fn intersect_ray(self, ray: Ray, vertex: f64) -> Crossing
         ensures { λ x. ⌜ toldCrossing x ≡ biconicCrossingAnswer self ray vertex ⌝ }
     {
-        if !(ray_finite(ray) & is_finite(vertex) & self.is_good()) {
-            return Crossing::Refused(Refusal::InvalidParameter);
-        }
-        if self.semi < 0.0 {
+        if !can_be_met(self.is_good(), self.semi, ray, vertex) {
             return Crossing::Refused(Refusal::InvalidParameter);
         }
         let profile = Profile::Biconic(self.cx, self.kx, self.cy, self.ky);
@@ -269,7 +266,8 @@ fn base_curve_sag(cy: f64, y: f64, s: f64) -> f64
 // About the base curve's sag, without its root: 1 / (1 + √(1 - u)) is 1/2 + u/8 + u²/16 + 5u³/128 + 7u⁴/256 + ... Nothing is promised of it.
 fn base_curve_guess(cy: f64, ky: f64, y: f64) -> f64 {
     let u = (1.0 + ky) * cy * cy * (y * y);
-    cy * (y * y) * (0.5 + u * (0.125 + u * (0.0625 + u * (0.0390625 + u * 0.02734375))))
+    let u2 = u * u;
+    cy * (y * y) * (0.5 + 0.125 * u + (0.0625 + 0.0390625 * u + 0.02734375 * u2) * u2)
 }
 
 // The rolled circle's sag, from its radius `term` at y. `near` is a guess at that radius, which shortens the wait and changes no answer.
@@ -277,8 +275,8 @@ fn circle_depth(rx: f64, x: f64, term: f64, base: f64, near: f64) -> Depth
     ensures { λ d. ⌜ toldDepth d ≡ circleDepth rx x term base ⌝ }
 {
     match edge_root_beside(term * term - x * x, near * near - x * x) {
-        Number::Is(s) => Depth::At(rx - sign_of(rx) * s, s, term, base),
-        Number::Refused(e) => Depth::Refused(e),
+        Root::Is(s) => Depth::At(rx - sign_of(rx) * s, s, term, base),
+        Root::Outside => Depth::Outside,
     }
 }
 
@@ -287,7 +285,7 @@ pub(crate) fn toroid_depth(rx: f64, cy: f64, ky: f64, x: f64, y: f64) -> Depth
     ensures { λ d. ⌜ toldDepth d ≡ toroidDepth rx cy ky x y ⌝ }
 {
     match edge_root(base_curve_radicand(cy, ky, y)) {
-        Number::Is(b) => {
+        Root::Is(b) => {
             circle_depth(
                 rx,
                 x,
@@ -296,7 +294,7 @@ pub(crate) fn toroid_depth(rx: f64, cy: f64, ky: f64, x: f64, y: f64) -> Depth
                 rx - base_curve_guess(cy, ky, y),
             )
         }
-        Number::Refused(e) => Depth::Refused(e),
+        Root::Outside => Depth::Outside,
     }
 }
 
@@ -366,8 +364,8 @@ fn toroid_slopes(rx: f64, cy: f64, ky: f64, x: f64, y: f64) -> Pair
     ensures { λ m. ⌜ toldPair m ≡ toroidSlopes rx cy ky x y ⌝ }
 {
     match edge_root(base_curve_radicand(cy, ky, y)) {
-        Number::Is(b) => circle_slopes(rx, cy, ky, x, y, rx - base_curve_sag(cy, y, b)),
-        Number::Refused(e) => Pair::Refused(e),
+        Root::Is(b) => circle_slopes(rx, cy, ky, x, y, rx - base_curve_sag(cy, y, b)),
+        Root::Outside => Pair::Refused(Refusal::GeometryOutsideAperture),
     }
 }
 
@@ -431,10 +429,7 @@ impl ToroidalSurface {
     pub fn intersect_ray(self, ray: Ray, vertex: f64) -> Crossing
         ensures { λ x. ⌜ toldCrossing x ≡ toroidCrossingAnswer self ray vertex ⌝ }
     {
-        if !(ray_finite(ray) & is_finite(vertex) & self.is_good()) {
-            return Crossing::Refused(Refusal::InvalidParameter);
-        }
-        if self.semi < 0.0 {
+        if !can_be_met(self.is_good(), self.semi, ray, vertex) {
             return Crossing::Refused(Refusal::InvalidParameter);
         }
         let profile = Profile::Toroid(self.rx, self.cy, self.ky);

@@ -4,7 +4,7 @@ ghost use Rattle.numbers.specs.Arithmetic.{0f};
 ghost use Rattle.numbers.specs.Sqrt.{root};
 ghost use Rattle.surfaces.specs.Types.{noCoefficients};
 ghost use Rattle.surfaces.specs.Told.{toldPair, toldDirection, toldCrossing, toldDepth, toldPassed, toldEnd, toldTurned, noCrossing};
-ghost use Rattle.surfaces.specs.Newton.{arrivedAt, movedBy, passAt, vertexPlane, nextPass, limitedPass, newtonEnd};
+ghost use Rattle.surfaces.specs.Newton.{arrivedAt, movedBy, passAt, vertexPlane, nextPass, limitedPass, newtonEnd, canBeMet};
 ghost use Rattle.surfaces.specs.Surface.{shapeOf, slopesFrom, conicOf, passRule, surfaceNormal, onwardFrom, turnRule};
 use crate::asphere::Depth;
 use crate::asphere::even_depth;
@@ -33,7 +33,9 @@ use crate::types::Ray;
 use crate::types::Vec3;
 use crate::types::dot;
 use crate::types::point_at;
+use crate::types::ray_finite;
 use numbers::abs;
+use numbers::is_finite;
 use numbers::root_exceeds;
 use numbers::sqrt;
 
@@ -178,7 +180,8 @@ fn pass_at(q: Profile, a: Coefficients, semi: f64, vertex: f64, ray: Ray, t: f64
                 Pair::Refused(_) => missed(),
             }
         }
-        Depth::Refused(_) => missed(),
+        Depth::Outside => missed(),
+        Depth::Invalid => missed(),
     }
 }
 
@@ -261,6 +264,13 @@ pub(crate) fn newton(q: Profile, a: Coefficients, semi: f64, vertex: f64, ray: R
         crossing,
         passes: made + 1,
     }
+}
+
+// What a single intersection tests before it: all numbers finite, and no negative semi-diameter.
+pub(crate) fn can_be_met(good: bool, semi: f64, ray: Ray, vertex: f64) -> bool
+    ensures { λ r. ⌜ r ≡ canBeMet good semi ray vertex ⌝ }
+{
+    ray_finite(ray) & is_finite(vertex) & good & !(semi < 0.0)
 }
 
 fn conic_of(s: Surface, c: f64, k: f64) -> ConicSurface

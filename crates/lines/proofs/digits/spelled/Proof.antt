@@ -1,16 +1,13 @@
 -- `lines::digits::spelled` meets its contract: at each turn the rest of the word spells, after the number so far, what the whole does.
 -- Assumes nothing.
 use Prim.Native.Nat.{ℕ, _+_, _*_, _-_, _/_, _≤_, _<_}
-use mathlib.Core.List.{List}
 use mathlib.Core.Path.{_≡_, refl}
 use native.Mathlib.Nat.{le-div-iff-mul-le, div-lt-iff-lt-mul}
-use native.Mathlib.Numerals.{add-one}
 use native.Mathlib.Omega.{arith}
-use lib.ListN.{length, drop, getD, drop-of-length-le}
+use lib.ListN.{length, drop, drop-of-length-le}
 use borrow.Author.Needs.{needs}
 use borrow.Author.Tests.{lt-ltb, le-ltb, lt-leb, le-leb}
-use Rattle.lines.specs.Digits.{digitValue, spelled}
-use Rattle.lines.specs.declared.digits.ReadCount.the-variants.{Is, Unreadable}
+use Rattle.lines.specs.Digits.{spelled}
 use Rattle.lines.proofs.Lists.{next-byte}
 use Rattle.lines.proofs.digits.spelled.Statement.{statement}
 use Rattle.lines.proofs.digits.spelled.Tie as tie

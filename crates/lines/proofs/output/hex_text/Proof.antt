@@ -1,10 +1,10 @@
 -- `lines::output::hex_text` meets its contract: at each turn the digits of what is left, and then the text from the place on, are the
 -- whole text. Assumes nothing.
 use Prim.Native.Nat.{ℕ, suc, _+_, _-_, _/_, _%_, _≤_, _<_}
-use mathlib.Core.List.{List, [], _∷_, _++_, append-nil}
+use mathlib.Core.List.{List, _++_, append-nil}
 use mathlib.Core.Path.{_≡_, refl, _∙_}
 use native.Mathlib.Omega.{arith}
-use lib.ListN.{length, drop, set, getD, length-set}
+use lib.ListN.{length, drop, set, length-set}
 use lib.Seq.{append-snoc, drop-set-lt, getD-set-same, drop-cons}
 use borrow.Author.Needs.{needs}
 use Rattle.lines.specs.Text.{glyph, hexText}

@@ -1,6 +1,5 @@
 -- `lines::output::put_count` meets its contract: the callees' promises, one after the other. Assumes nothing.
 use mathlib.Core.Path.{_∙_}
-use native.Mathlib.Omega.{arith}
 use borrow.Author.Needs.{needs}
 use Rattle.lines.proofs.Decimal.{decimal-is}
 use Rattle.lines.proofs.output.put_count.Statement.{statement}

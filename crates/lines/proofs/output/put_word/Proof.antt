@@ -1,10 +1,10 @@
 -- `lines::output::put_word` meets its contract: at each turn the buffer is as it came but for the bytes that were copied. Assumes nothing.
 use Prim.Native.Nat.{ℕ, _+_, _-_, _≤_, _<_}
-use mathlib.Core.List.{List, _∷_, _++_}
+use mathlib.Core.List.{List, _++_}
 use mathlib.Core.Path.{_≡_}
 use native.Mathlib.Numerals.{add-one}
 use native.Mathlib.Omega.{arith}
-use lib.ListN.{length, take, drop, set, getD, length-append, length-set}
+use lib.ListN.{length, take, set, getD, length-append, length-set}
 use lib.Seq.{paste, paste-zero, paste-suc, take-length, length-take-le, set-at}
 use borrow.Author.Needs.{needs}
 use borrow.Author.Tests.{lt-ltb, le-ltb}

@@ -1,6 +1,5 @@
 -- What is returned follows from the tests and the calls on the way, in their order. Assumes nothing.
 use borrow.Author.Needs.{needs}
-use Rattle.surfaces.proofs.Refusals.{never-done}
 use lib.Ieee.{ofBits}
 use Rattle.numbers.specs.Arithmetic.{decimal}
 use Rattle.surfaces.specs.Asphere.{evenDepth}
@@ -25,5 +24,5 @@ even-depth-spec =
     let c1 = c .before in let c3 = c1 .before .before in let c5 = c3 .before .before in let c7 = c5 .before .before in let c8 = c7 .before in
     rw (← c8 .is-finite .ensures, c7 .if1 .left, ← c5 .base-root .ensures, c3 .s .given .1, ← c1 .base-sag .ensures, ← c .power-sum .ensures))
     (λ c.
-    let c1 = c .before in let c3 = c1 .before .before in let c5 = c3 .before .before in let c6 = c5 .before in
-    rw (← c6 .is-finite .ensures, c5 .if1 .left, ← c3 .base-root .ensures, c1 .e .given .1, never-done)))
+    let c2 = c .before .before in let c4 = c2 .before .before in let c5 = c4 .before in
+    rw (← c5 .is-finite .ensures, c4 .if1 .left, ← c2 .base-root .ensures, c .enum-told .given .1)))

@@ -1,6 +1,5 @@
 -- What is returned follows from the tests and the calls on the way, in their order. Assumes nothing.
 use borrow.Author.Needs.{needs}
-use Rattle.surfaces.proofs.Refusals.{never-done}
 use lib.Ieee.{ofBits}
 use Rattle.numbers.specs.Arithmetic.{decimal}
 use Rattle.surfaces.specs.Asphere.{evenSlope}
@@ -24,5 +23,5 @@ even-slope-spec =
     let c2 = c .before .before in let c4 = c2 .before .before in let c5 = c4 .before in let c6 = c5 .before in
     rw (← c6 .is-finite .ensures, c5 .if1 .left, ← c4 .base-root .ensures, c2 .s .given .1, ← c .even-slope-from .ensures))
     (λ c.
-    let c1 = c .before in let c3 = c1 .before .before in let c4 = c3 .before in let c5 = c4 .before in
-    rw (← c5 .is-finite .ensures, c4 .if1 .left, ← c3 .base-root .ensures, c1 .e .given .1, never-done)))
+    let c2 = c .before .before in let c3 = c2 .before in let c4 = c3 .before in
+    rw (← c4 .is-finite .ensures, c3 .if1 .left, ← c2 .base-root .ensures, c .enum-told .given .1)))

@@ -1,12 +1,14 @@
 -- What is returned follows from the tests and the calls on the way, in their order. Assumes nothing.
 use borrow.Author.Needs.{needs}
 use Rattle.surfaces.proofs.Refusals.{never-done}
+use lib.Ieee.{ofBits}
+use Rattle.numbers.specs.Arithmetic.{decimal}
 use Rattle.surfaces.specs.Asphere.{evenSlopesFrom}
 use Rattle.surfaces.proofs.asphere.even_slopes_from.Statement.{statement}
 use Rattle.surfaces.proofs.asphere.even_slopes_from.Tie as tie
 
 pub even-slopes-from-spec : {M : Type 1} → statement M
-unfolding evenSlopesFrom
+unfolding evenSlopesFrom decimal ofBits
 even-slopes-from-spec =
     tie.close
     (tie.spec

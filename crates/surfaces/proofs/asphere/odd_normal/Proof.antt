@@ -27,7 +27,7 @@ odd-normal-spec =
     (λ c. search needs)
     (λ c.
     let c1 = c .before in let c2 = c1 .before in let c4 = c2 .before .before in let c6 = c4 .before .before in let c7 = c6 .before in let c8 = c7 .before in let c9 = c8 .before in let c11 = c9 .before .before in
-    rw (← c11 .sqrt .ensures, ← c9 .first-or-zero .ensures, ← c8 .abs .ensures, c7 .if1 .left, ← c6 .odd-slope .ensures, c4 .d .given .1, ← c2 .odd-slopes .ensures, ← c1 .length-of .ensures, ← c .facing .ensures))
+    rw (← c11 .sqrt .ensures, ← c9 .first-or-zero .ensures, ← c8 .abs .ensures, c7 .if1 .left, ← c6 .odd-slope .ensures, c4 .d .given .1, ← c2 .radial-slopes .ensures, ← c1 .length-of .ensures, ← c .facing .ensures))
     (λ c.
     let c1 = c .before in let c3 = c1 .before .before in let c4 = c3 .before in let c5 = c4 .before in let c6 = c5 .before in let c8 = c6 .before .before in
     rw (← c8 .sqrt .ensures, ← c6 .first-or-zero .ensures, ← c5 .abs .ensures, c4 .if1 .left, ← c3 .odd-slope .ensures, c1 .e .given .1, never-done)))

@@ -1,6 +1,5 @@
 -- What is returned follows from the tests and the calls on the way, in their order. Assumes nothing.
 use borrow.Author.Needs.{needs}
-use Rattle.surfaces.proofs.Refusals.{never-done}
 use lib.Ieee.{ofBits}
 use Rattle.numbers.specs.Arithmetic.{decimal}
 use Rattle.surfaces.specs.Asphere.{oddSag}
@@ -26,5 +25,5 @@ odd-sag-spec =
     let c1 = c .before in let c2 = c1 .before in let c4 = c2 .before .before in let c6 = c4 .before .before in let c9 = c6 .before .before .before in let c10 = c9 .before in
     rw (← c10 .is-finite .ensures, c9 .if1 .left, ← c6 .base-root .ensures, c4 .root .given .1, ← c2 .base-sag .ensures, ← c1 .power-sum .ensures, ← c .power-sum2 .ensures))
     (λ c.
-    let c1 = c .before in let c3 = c1 .before .before in let c6 = c3 .before .before .before in let c7 = c6 .before in
-    rw (← c7 .is-finite .ensures, c6 .if1 .left, ← c3 .base-root .ensures, c1 .e .given .1, never-done)))
+    let c2 = c .before .before in let c5 = c2 .before .before .before in let c6 = c5 .before in
+    rw (← c6 .is-finite .ensures, c5 .if1 .left, ← c2 .base-root .ensures, c .enum-told .given .1)))

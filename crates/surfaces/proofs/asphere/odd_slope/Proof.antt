@@ -1,6 +1,5 @@
 -- What is returned follows from the tests and the calls on the way, in their order. Assumes nothing.
 use borrow.Author.Needs.{needs}
-use Rattle.surfaces.proofs.Refusals.{never-done}
 use lib.Ieee.{ofBits}
 use Rattle.numbers.specs.Arithmetic.{decimal}
 use Rattle.surfaces.specs.Asphere.{oddSlope}
@@ -22,5 +21,5 @@ odd-slope-spec =
     let c1 = c .before in let c2 = c1 .before in let c4 = c2 .before .before in let c6 = c4 .before .before in
     rw (← c6 .base-root .ensures, c4 .root .given .1, ← c2 .odd-base-slope .ensures, ← c1 .slope-sum .ensures, ← c .slope-sum2 .ensures))
     (λ c.
-    let c1 = c .before in let c3 = c1 .before .before in
-    rw (← c3 .base-root .ensures, c1 .e .given .1, never-done)))
+    let c2 = c .before .before in
+    rw (← c2 .base-root .ensures, c .enum-told .given .1)))

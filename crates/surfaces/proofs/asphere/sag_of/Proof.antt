@@ -13,9 +13,9 @@ sag-of-spec =
     (tie.spec
     (λ c. search needs)
     (λ c. search needs)
+    (λ c. search needs)
     (λ c.
     let c1 = c .before in
     rw (c1 .d .given .1))
-    (λ c.
-    let c1 = c .before in
-    rw (c1 .d2 .given .1)))
+    (λ c. rw (c .enum-told .given .1))
+    (λ c. rw (c .enum-told2 .given .1)))

@@ -1,6 +1,5 @@
 -- What is returned follows from the tests and the calls on the way, in their order. Assumes nothing.
 use borrow.Author.Needs.{needs}
-use Rattle.surfaces.proofs.Refusals.{never-done}
 use lib.Ieee.{ofBits}
 use Rattle.numbers.specs.Arithmetic.{decimal}
 use Rattle.surfaces.specs.Biconic.{biconicDepth}
@@ -26,5 +25,5 @@ biconic-depth-spec =
     let c1 = c .before in let c3 = c1 .before .before in let c4 = c3 .before in let c5 = c4 .before in let c6 = c5 .before in let c7 = c6 .before in let c8 = c7 .before in
     rw (← c8 .is-finite .ensures, ← c7 .is-finite2 .ensures, c6 .if1 .left, ← c5 .numerator .ensures, ← c4 .biconic-radicand .ensures, ← c3 .edge-root .ensures, c1 .s .given .1))
     (λ c.
-    let c1 = c .before in let c3 = c1 .before .before in let c4 = c3 .before in let c5 = c4 .before in let c6 = c5 .before in let c7 = c6 .before in let c8 = c7 .before in
-    rw (← c8 .is-finite .ensures, ← c7 .is-finite2 .ensures, c6 .if1 .left, ← c5 .numerator .ensures, ← c4 .biconic-radicand .ensures, ← c3 .edge-root .ensures, c1 .e .given .1, never-done)))
+    let c2 = c .before .before in let c3 = c2 .before in let c4 = c3 .before in let c5 = c4 .before in let c6 = c5 .before in let c7 = c6 .before in
+    rw (← c7 .is-finite .ensures, ← c6 .is-finite2 .ensures, c5 .if1 .left, ← c4 .numerator .ensures, ← c3 .biconic-radicand .ensures, ← c2 .edge-root .ensures, c .enum-told .given .1)))

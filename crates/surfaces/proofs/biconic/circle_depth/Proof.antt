@@ -1,6 +1,5 @@
 -- What is returned follows from the tests and the calls on the way, in their order. Assumes nothing.
 use borrow.Author.Needs.{needs}
-use Rattle.surfaces.proofs.Refusals.{never-done}
 use lib.Ieee.{ofBits}
 use Rattle.numbers.specs.Arithmetic.{decimal}
 use Rattle.surfaces.specs.Biconic.{circleDepth}
@@ -20,5 +19,5 @@ circle-depth-spec =
     let c2 = c .before .before in let c4 = c2 .before .before in
     rw (← c4 .edge-root-beside .ensures, c2 .s .given .1, ← c .sign-of .ensures))
     (λ c.
-    let c1 = c .before in let c3 = c1 .before .before in
-    rw (← c3 .edge-root-beside .ensures, c1 .e .given .1, never-done)))
+    let c2 = c .before .before in
+    rw (← c2 .edge-root-beside .ensures, c .enum-told .given .1)))

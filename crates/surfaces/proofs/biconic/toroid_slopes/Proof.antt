@@ -1,6 +1,5 @@
 -- What is returned follows from the tests and the calls on the way, in their order. Assumes nothing.
 use borrow.Author.Needs.{needs}
-use Rattle.surfaces.proofs.Refusals.{never-done}
 use lib.Ieee.{ofBits}
 use Rattle.numbers.specs.Arithmetic.{decimal}
 use Rattle.surfaces.specs.Biconic.{toroidSlopes}
@@ -22,5 +21,5 @@ toroid-slopes-spec =
     let c1 = c .before in let c3 = c1 .before .before in let c5 = c3 .before .before in let c6 = c5 .before in
     rw (← c6 .base-curve-radicand .ensures, ← c5 .edge-root .ensures, c3 .b .given .1, ← c1 .base-curve-sag .ensures, ← c .circle-slopes .ensures))
     (λ c.
-    let c1 = c .before in let c3 = c1 .before .before in let c4 = c3 .before in
-    rw (← c4 .base-curve-radicand .ensures, ← c3 .edge-root .ensures, c1 .e .given .1, never-done)))
+    let c2 = c .before .before in let c3 = c2 .before in
+    rw (← c3 .base-curve-radicand .ensures, ← c2 .edge-root .ensures, c .enum-told .given .1)))

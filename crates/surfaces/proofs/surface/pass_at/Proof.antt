@@ -55,6 +55,8 @@ pass-at-spec =
     (λ c κs. tt)
     (λ c. search needs)
     (λ c κs. tt)
+    (λ c. search needs)
+    (λ c κs. tt)
     (λ c.
     let c1 = c .before in let c3 = c1 .before .before in let c5 = c3 .before .before in let c6 = c5 .before in let c7 = c6 .before in let c10 = c7 .before .before .before in let c12 = c10 .before .before in let c13 = c12 .before in let c14 = c13 .before in let c17 = c14 .before .before .before in
     rw (semi-of _ _ _, ← c17 .point-at .ensures, ← c14 .root-exceeds .ensures, c13 .if1 .left, ← c12 .depth .ensures, c10 .z .given .1, ← c7 .abs .ensures, c6 .if2 .left, slopes-there c5, c3 .m .given .1, kind-alone _ _ noCoefficients _ 0f .0, ← c1 .checks-last .ensures, ← c .moved .ensures))
@@ -63,4 +65,7 @@ pass-at-spec =
     rw (semi-of _ _ _, ← c15 .point-at .ensures, ← c12 .root-exceeds .ensures, c11 .if1 .left, ← c10 .depth .ensures, c8 .z .given .1, ← c5 .abs .ensures, c4 .if2 .left, slopes-there c3, c1 .enum-told .given .1, never-done, ← c .missed2 .ensures))
     (λ c.
     let c1 = c .before in let c3 = c1 .before .before in let c4 = c3 .before in let c5 = c4 .before in let c8 = c5 .before .before .before in
-    rw (semi-of _ _ _, ← c8 .point-at .ensures, ← c5 .root-exceeds .ensures, c4 .if1 .left, ← c3 .depth .ensures, c1 .enum-told2 .given .1, never-done, ← c .missed3 .ensures)))
+    rw (semi-of _ _ _, ← c8 .point-at .ensures, ← c5 .root-exceeds .ensures, c4 .if1 .left, ← c3 .depth .ensures, c1 .enum-told2 .given .1, ← c .missed3 .ensures))
+    (λ c.
+    let c1 = c .before in let c3 = c1 .before .before in let c4 = c3 .before in let c5 = c4 .before in let c8 = c5 .before .before .before in
+    rw (semi-of _ _ _, ← c8 .point-at .ensures, ← c5 .root-exceeds .ensures, c4 .if1 .left, ← c3 .depth .ensures, c1 .enum-told3 .given .1, ← c .missed4 .ensures)))

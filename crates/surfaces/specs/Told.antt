@@ -34,8 +34,8 @@ use Rattle.surfaces.specs.declared.asphere.EvenAsphere.{EvenAsphere}
 use Rattle.surfaces.specs.declared.asphere.NewEven.{NewEven}
 use Rattle.surfaces.specs.declared.asphere.OddAsphere.{OddAsphere}
 use Rattle.surfaces.specs.declared.asphere.NewOdd.{NewOdd}
-use Rattle.surfaces.specs.declared.asphere.Root.{Root}
-use Rattle.surfaces.specs.declared.asphere.Root.the-variants as rooted
+use Rattle.surfaces.specs.declared.asphere.EdgeRoot.{EdgeRoot}
+use Rattle.surfaces.specs.declared.asphere.EdgeRoot.the-variants as edge-root
 use Rattle.surfaces.specs.declared.asphere.Depth.{Depth}
 use Rattle.surfaces.specs.declared.asphere.Depth.the-variants as depth
 use Rattle.surfaces.specs.declared.biconic.BiconicSurface.{BiconicSurface}
@@ -197,9 +197,9 @@ noDepths = depths 0f 0f 0f 0f
 abbrev pub noDepth : ℕ → Told Depths
 noDepth n = refused noDepths (plain n)
 
-abbrev pub toldRoot : Root → Told Float
-toldRoot (rooted.Is s) = gives s
-toldRoot rooted.Outside = noNumber 5
+abbrev pub toldEdgeRoot : EdgeRoot → Told Float
+toldEdgeRoot (edge-root.Is s) = gives s
+toldEdgeRoot edge-root.Outside = noNumber 5
 
 abbrev pub toldDepth : Depth → Told Depths
 toldDepth (depth.At z s p b) = gives (depths z s p b)

@@ -2,7 +2,7 @@
 ghost use mathlib.Core.Path.{_≡_};
 ghost use lib.ListN.{take};
 ghost use Rattle.surfaces.specs.Types.{terms};
-ghost use Rattle.surfaces.specs.Told.{toldNumber, toldSag, toldPair, toldDirection, toldCrossing, toldRoot, toldDepth, toldEven, toldOdd, sagOf};
+ghost use Rattle.surfaces.specs.Told.{toldNumber, toldSag, toldPair, toldDirection, toldCrossing, toldEdgeRoot, toldDepth, toldEven, toldOdd, sagOf};
 ghost use Rattle.surfaces.specs.Asphere.{powerSum, slopeSum, firstOr0, edgeRoot, baseRoot, baseSag, baseSlope, evenDepth, evenSlopeFrom, evenSlope, radialSlopes, evenSlopesFrom, lengthOf, facingOf, evenFacing, evenNormal, evenGood, newEven, evenSagAnswer, evenSlopeAnswer, evenNormalAnswer, evenParaxial, evenCrossingAnswer, oddGood, newOdd, oddSag, oddSagAnswer, oddSlope, oddBaseSlope, oddNormal, oddNormalAnswer};
 use crate::refusal::Crossing;
 use crate::refusal::Direction;
@@ -53,34 +53,34 @@ pub(crate) enum Depth {
 }
 
 // The root of a radicand, or that the point is outside.
-pub(crate) enum Root {
+pub(crate) enum EdgeRoot {
     Is(f64),
     Outside,
 }
 
 // The root in every sag but the conic's: a radicand a little below 0 counts as 0.
-pub(crate) fn edge_root(radicand: f64) -> Root
-    ensures { λ r. ⌜ toldRoot r ≡ edgeRoot radicand ⌝ }
+pub(crate) fn edge_root(radicand: f64) -> EdgeRoot
+    ensures { λ r. ⌜ toldEdgeRoot r ≡ edgeRoot radicand ⌝ }
 {
     edge_root_beside(radicand, radicand)
 }
 
 // The same, where `near` is a guess at the radicand that is known earlier.
-pub(crate) fn edge_root_beside(radicand: f64, near: f64) -> Root
-    ensures { λ r. ⌜ toldRoot r ≡ edgeRoot radicand ⌝ }
+pub(crate) fn edge_root_beside(radicand: f64, near: f64) -> EdgeRoot
+    ensures { λ r. ⌜ toldEdgeRoot r ≡ edgeRoot radicand ⌝ }
 {
     if radicand < -1e-12 {
-        return Root::Outside;
+        return EdgeRoot::Outside;
     }
-    Root::Is(root_beside(max(radicand, 0.0), max(near, 0.0)))
+    EdgeRoot::Is(root_beside(max(radicand, 0.0), max(near, 0.0)))
 }
 
 // The base's root, which is 1 where the base is flat. `near` is a guess at r2, which shortens the wait and changes no answer.
-fn base_root(c: f64, k: f64, r2: f64, near: f64) -> Root
-    ensures { λ r. ⌜ toldRoot r ≡ baseRoot c k r2 ⌝ }
+fn base_root(c: f64, k: f64, r2: f64, near: f64) -> EdgeRoot
+    ensures { λ r. ⌜ toldEdgeRoot r ≡ baseRoot c k r2 ⌝ }
 {
     if abs(c) < 1e-15 {
-        return Root::Is(1.0);
+        return EdgeRoot::Is(1.0);
     }
     edge_root_beside(1.0 - (1.0 + k) * c * c * r2, 1.0 - (1.0 + k) * c * c * near)
 }
@@ -154,7 +154,7 @@ pub(crate) fn even_depth(c: f64, k: f64, a: Coefficients, r: f64, near: f64) -> 
     let r2 = r * r;
     let values = a.values;
     match base_root(c, k, r2, near) {
-        Root::Is(s) => {
+        EdgeRoot::Is(s) => {
             Depth::At(
                 base_sag(c, r2, s) + power_sum(values, a.count, r2, r2),
                 s,
@@ -162,7 +162,7 @@ pub(crate) fn even_depth(c: f64, k: f64, a: Coefficients, r: f64, near: f64) -> 
                 0.0,
             )
         }
-        Root::Outside => Depth::Outside,
+        EdgeRoot::Outside => Depth::Outside,
     }
 }
 
@@ -185,8 +185,8 @@ fn even_slope(c: f64, k: f64, a: Coefficients, r: f64) -> Number
         return Number::Refused(Refusal::InvalidParameter);
     }
     match base_root(c, k, r * r, r * r) {
-        Root::Is(s) => even_slope_from(c, a, r, s),
-        Root::Outside => Number::Refused(Refusal::GeometryOutsideAperture),
+        EdgeRoot::Is(s) => even_slope_from(c, a, r, s),
+        EdgeRoot::Outside => Number::Refused(Refusal::GeometryOutsideAperture),
     }
 }
 
@@ -394,14 +394,14 @@ fn odd_sag(s: OddAsphere, r: f64) -> Sag
     let even = s.even.values;
     let odd = s.odd.values;
     match base_root(s.curvature, s.conic, r2, r2) {
-        Root::Is(root) => {
+        EdgeRoot::Is(root) => {
             Sag::At(
                 base_sag(s.curvature, r2, root)
                     + power_sum(even, s.even.count, r2, r2)
                     + power_sum(odd, s.odd.count, r, r2),
             )
         }
-        Root::Outside => Sag::Refused(Refusal::GeometryOutsideAperture),
+        EdgeRoot::Outside => Sag::Refused(Refusal::GeometryOutsideAperture),
     }
 }
 
@@ -423,14 +423,14 @@ fn odd_slope(s: OddAsphere, r: f64) -> Number
     let even = s.even.values;
     let odd = s.odd.values;
     match base_root(s.curvature, s.conic, r2, r2) {
-        Root::Is(root) => {
+        EdgeRoot::Is(root) => {
             Number::Is(
                 odd_base_slope(s.curvature, r, root)
                     + slope_sum(even, s.even.count, 2.0, r, r2)
                     + slope_sum(odd, s.odd.count, 1.0, 1.0, r2),
             )
         }
-        Root::Outside => Number::Refused(Refusal::GeometryOutsideAperture),
+        EdgeRoot::Outside => Number::Refused(Refusal::GeometryOutsideAperture),
     }
 }
 

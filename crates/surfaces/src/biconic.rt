@@ -4,7 +4,7 @@ ghost use Rattle.surfaces.specs.Told.{toldSag, toldPair, toldDirection, 
 ghost use Rattle.surfaces.specs.Conic.{radiusOf};
 ghost use Rattle.surfaces.specs.Biconic.{numeratorOf, biconicRadicand, biconicDepth, onAxis, meridianSlope, biconicSlopesAt, biconicSlopesFrom, biconicSlopes, biconicNormal, biconicGood, newBiconic, biconicSagAnswer, biconicSlopesAnswer, biconicNormalAnswer, biconicCrossingAnswer, biconicParaxial, baseCurveSag, toroidDepth, baseCurveSlope, circleDepth, circleSlopesAt, circleSlopes, toroidSlopesFrom, toroidSlopes, toroidNormal, toroidGood, newToroid, toroidSagAnswer, toroidSlopesAnswer, toroidNormalAnswer, toroidCrossingAnswer, normalOf, baseCurveRadicand, slopeRadicand};
 use crate::asphere::Depth;
-use crate::asphere::Root;
+use crate::asphere::EdgeRoot;
 use crate::asphere::edge_root;
 use crate::asphere::edge_root_beside;
 use crate::asphere::facing;
@@ -67,8 +67,8 @@ pub(crate) fn biconic_depth(cx: f64, kx: f64, cy: f64, ky: f64, x: f64, y: f64) 
     }
     let num = numerator(cx, cy, x, y);
     match edge_root(biconic_radicand(cx, kx, cy, ky, x, y)) {
-        Root::Is(s) => Depth::At(num / (1.0 + s), s, num, 0.0),
-        Root::Outside => Depth::Outside,
+        EdgeRoot::Is(s) => Depth::At(num / (1.0 + s), s, num, 0.0),
+        EdgeRoot::Outside => Depth::Outside,
     }
 }
 
@@ -126,8 +126,8 @@ fn biconic_slopes(cx: f64, kx: f64, cy: f64, ky: f64, x: f64, y: f64) -> Pair
         return Pair::Both(Meridians { x: 0.0, y: 0.0 });
     }
     match edge_root(biconic_radicand(cx, kx, cy, ky, x, y)) {
-        Root::Is(s) => biconic_slopes_at(cx, kx, cy, ky, x, y, numerator(cx, cy, x, y), s),
-        Root::Outside => Pair::Refused(Refusal::GeometryOutsideAperture),
+        EdgeRoot::Is(s) => biconic_slopes_at(cx, kx, cy, ky, x, y, numerator(cx, cy, x, y), s),
+        EdgeRoot::Outside => Pair::Refused(Refusal::GeometryOutsideAperture),
     }
 }
 
@@ -275,8 +275,8 @@ fn circle_depth(rx: f64, x: f64, term: f64, base: f64, near: f64) -> Depth
     ensures { λ d. ⌜ toldDepth d ≡ circleDepth rx x term base ⌝ }
 {
     match edge_root_beside(term * term - x * x, near * near - x * x) {
-        Root::Is(s) => Depth::At(rx - sign_of(rx) * s, s, term, base),
-        Root::Outside => Depth::Outside,
+        EdgeRoot::Is(s) => Depth::At(rx - sign_of(rx) * s, s, term, base),
+        EdgeRoot::Outside => Depth::Outside,
     }
 }
 
@@ -285,7 +285,7 @@ pub(crate) fn toroid_depth(rx: f64, cy: f64, ky: f64, x: f64, y: f64) -> Depth
     ensures { λ d. ⌜ toldDepth d ≡ toroidDepth rx cy ky x y ⌝ }
 {
     match edge_root(base_curve_radicand(cy, ky, y)) {
-        Root::Is(b) => {
+        EdgeRoot::Is(b) => {
             circle_depth(
                 rx,
                 x,
@@ -294,7 +294,7 @@ pub(crate) fn toroid_depth(rx: f64, cy: f64, ky: f64, x: f64, y: f64) -> Depth
                 rx - base_curve_guess(cy, ky, y),
             )
         }
-        Root::Outside => Depth::Outside,
+        EdgeRoot::Outside => Depth::Outside,
     }
 }
 
@@ -364,8 +364,8 @@ fn toroid_slopes(rx: f64, cy: f64, ky: f64, x: f64, y: f64) -> Pair
     ensures { λ m. ⌜ toldPair m ≡ toroidSlopes rx cy ky x y ⌝ }
 {
     match edge_root(base_curve_radicand(cy, ky, y)) {
-        Root::Is(b) => circle_slopes(rx, cy, ky, x, y, rx - base_curve_sag(cy, y, b)),
-        Root::Outside => Pair::Refused(Refusal::GeometryOutsideAperture),
+        EdgeRoot::Is(b) => circle_slopes(rx, cy, ky, x, y, rx - base_curve_sag(cy, y, b)),
+        EdgeRoot::Outside => Pair::Refused(Refusal::GeometryOutsideAperture),
     }
 }
 

@@ -29,13 +29,21 @@ impl<'a> Operands<'a> {
         number(self.0.next()?)
     }
 
+    fn numbers<const N: usize>(&mut self) -> Option<[f64; N]> {
+        let mut numbers = [0.0; N];
+        for slot in &mut numbers {
+            *slot = self.number()?;
+        }
+        Some(numbers)
+    }
+
     /// A point's x and y.
     pub fn place(&mut self) -> Option<(f64, f64)> {
-        Some((self.number()?, self.number()?))
+        self.numbers().map(|[x, y]| (x, y))
     }
 
     pub fn vector(&mut self) -> Option<Vec3> {
-        Some(Vec3::new(self.number()?, self.number()?, self.number()?))
+        self.numbers().map(|[x, y, z]| Vec3::new(x, y, z))
     }
 
     /// With the direction as it is: `Ray::new` is not asked.
@@ -43,51 +51,34 @@ impl<'a> Operands<'a> {
         Some(Ray { origin: self.vector()?, direction: self.vector()?, wavelength_nm: 0.0, energy: 0.0 })
     }
 
+    pub fn ray_and_vertex(&mut self) -> Option<(Ray, f64)> {
+        Some((self.ray()?, self.number()?))
+    }
+
     pub fn conic(&mut self) -> Option<ConicSurface> {
-        Some(ConicSurface {
-            vertex_z: self.number()?,
-            curvature: self.number()?,
-            conic_constant: self.number()?,
-            semi_diam_mm: self.number()?,
-        })
+        let [vertex_z, curvature, conic_constant, semi_diam_mm] = self.numbers()?;
+        Some(ConicSurface { vertex_z, curvature, conic_constant, semi_diam_mm })
     }
 
     pub fn even(&mut self) -> Option<EvenAsphere> {
-        Some(EvenAsphere {
-            curvature: self.number()?,
-            conic_constant: self.number()?,
-            semi_diameter_mm: self.number()?,
-            coefficients: self.rest()?,
-        })
+        let [curvature, conic_constant, semi_diameter_mm] = self.numbers()?;
+        Some(EvenAsphere { curvature, conic_constant, semi_diameter_mm, coefficients: self.rest()? })
     }
 
     pub fn odd(&mut self) -> Option<OddAsphere> {
-        Some(OddAsphere {
-            curvature: self.number()?,
-            conic_constant: self.number()?,
-            semi_diameter_mm: self.number()?,
-            even_coefficients: self.counted()?,
-            odd_coefficients: self.rest()?,
-        })
+        let [curvature, conic_constant, semi_diameter_mm] = self.numbers()?;
+        let (even_coefficients, odd_coefficients) = (self.counted()?, self.rest()?);
+        Some(OddAsphere { curvature, conic_constant, semi_diameter_mm, even_coefficients, odd_coefficients })
     }
 
     pub fn biconic(&mut self) -> Option<BiconicSurface> {
-        Some(BiconicSurface {
-            cx: self.number()?,
-            kx: self.number()?,
-            cy: self.number()?,
-            ky: self.number()?,
-            semi_diameter_mm: self.number()?,
-        })
+        let [cx, kx, cy, ky, semi_diameter_mm] = self.numbers()?;
+        Some(BiconicSurface { cx, kx, cy, ky, semi_diameter_mm })
     }
 
     pub fn toroid(&mut self) -> Option<ToroidalSurface> {
-        Some(ToroidalSurface {
-            rx_mm: self.number()?,
-            cy: self.number()?,
-            ky: self.number()?,
-            semi_diameter_mm: self.number()?,
-        })
+        let [rx_mm, cy, ky, semi_diameter_mm] = self.numbers()?;
+        Some(ToroidalSurface { rx_mm, cy, ky, semi_diameter_mm })
     }
 
     /// `#n` and then n numbers.

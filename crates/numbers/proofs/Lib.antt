@@ -2,7 +2,7 @@
 mod Roots
 mod Patterns
 mod Scale
-mod Signs
+pub mod Signs
 mod Values
 mod Floats
 pub mod Nearest

@@ -8,12 +8,12 @@ use lib.Ieee.{Float, neg}
 use Rattle.numbers.specs.Arithmetic.{if_then_else_, _-₆₄_, _*₆₄_, _/₆₄_, _<₆₄_, 0f, 4f, 1e-7, 1e-15}
 use Rattle.numbers.specs.Basic.{magnitude}
 use Rattle.surfaces.specs.Types.{pointAt, distance}
-use Rattle.surfaces.specs.Told.{Told, Ended, ended, noCrossing}
+use Rattle.surfaces.specs.Told.{Told, Ended, ended}
 use Rattle.surfaces.specs.Conic.{landedWithin, planeCrossing, onSheet, firstOn, quadraticOf, curvedCrossing, conicCrossing}
 use Rattle.surfaces.specs.Newton.{Shape, going, passAt, vertexPlane, passesFrom, newtonEnd, limitedPass}
 use Rattle.surfaces.specs.Asphere.{evenShape}
 use Rattle.surfaces.specs.Biconic.{biconicShape, toroidShape}
-use Rattle.surfaces.specs.Surface.{conicOf, passRule, surfaceEnd, limitBy, chain, ChainEnds}
+use Rattle.surfaces.specs.Surface.{conicOf, passRule, surfaceEnd, limitOf, chain, ChainEnds}
 use Rattle.surfaces.specs.declared.types.Vec3.{Vec3}
 use Rattle.surfaces.specs.declared.types.Ray.{Ray}
 use Rattle.surfaces.specs.declared.types.Landing.{Landing}
@@ -21,41 +21,41 @@ use Rattle.surfaces.specs.declared.conic.ConicSurface.{ConicSurface}
 use Rattle.surfaces.specs.declared.surface.Kind.{Kind}
 use Rattle.surfaces.specs.declared.surface.Kind.the-variants.{Conic, Even, Biconic, Toroid}
 use Rattle.surfaces.specs.declared.surface.Surface.{Surface}
+use Rattle.surfaces.proofs.Choice.{either}
 use Rattle.surfaces.proofs.Passes.{onFrom, next, step, more}
 
--- of two that have ended, either has
-either : (b : Bool) (x y : Told Landing) → going x ≡ false → going y ≡ false → going (if b then x else y) ≡ false
-either true x y e f = e
-either false x y e f = f
+-- what does not go on
+abbrev Over : Told Landing → Type 0
+Over x = going x ≡ false
 
-landed : (t : Float) (p : Vec3) (r semi : Float) → going (landedWithin t p r semi) ≡ false
+landed : (t : Float) (p : Vec3) (r semi : Float) → Over (landedWithin t p r semi)
 unfolding landedWithin
-landed t p r semi = either (semi <₆₄ r) _ _ refl refl
+landed t p r semi = either Over (semi <₆₄ r) _ _ refl refl
 
 module _ (ray : Ray) (s : ConicSurface) where
-  first : (l : List Float) → going (firstOn ray s l) ≡ false
+  first : (l : List Float) → Over (firstOn ray s l)
   unfolding firstOn
   first [] = refl
   first (t ∷ l) =
       let p = pointAt ray t in
       let r = distance (p .x) (p .y) in
-      either (onSheet s p r) (landedWithin t p r (s .semi)) (firstOn ray s l) (landed t p r (s .semi)) (first l)
+      either Over (onSheet s p r) (landedWithin t p r (s .semi)) (firstOn ray s l) (landed t p r (s .semi)) (first l)
 
-  plane : going (planeCrossing ray s) ≡ false
+  plane : Over (planeCrossing ray s)
   unfolding planeCrossing
-  plane = either (magnitude (ray .direction .z) <₆₄ 1e-15) _ _ refl (either (neg (ray .origin .z -₆₄ s .vertex) /₆₄ ray .direction .z <₆₄ neg 1e-7) _ _ refl (landed _ _ _ _))
+  plane = either Over (magnitude (ray .direction .z) <₆₄ 1e-15) _ _ refl (either Over (neg (ray .origin .z -₆₄ s .vertex) /₆₄ ray .direction .z <₆₄ neg 1e-7) _ _ refl (landed _ _ _ _))
 
-  curved : going (curvedCrossing ray s) ≡ false
+  curved : Over (curvedCrossing ray s)
   unfolding curvedCrossing
-  curved = let e = quadraticOf ray s in either (e .b *₆₄ e .b -₆₄ 4f *₆₄ e .a *₆₄ e .c <₆₄ 0f) _ _ refl (first _)
+  curved = let e = quadraticOf ray s in either Over (e .b *₆₄ e .b -₆₄ 4f *₆₄ e .a *₆₄ e .c <₆₄ 0f) _ _ refl (first _)
 
-  crossed : going (conicCrossing ray s) ≡ false
+  crossed : Over (conicCrossing ray s)
   unfolding conicCrossing
-  crossed = either (magnitude (s .curvature) <₆₄ 1e-15) (planeCrossing ray s) (curvedCrossing ray s) plane curved
+  crossed = either Over (magnitude (s .curvature) <₆₄ 1e-15) (planeCrossing ray s) (curvedCrossing ray s) plane curved
 
 -- how Newton's method ends
 abbrev Bounded : Ended → ℕ → Type 0
-Bounded e n = (going (e .answer) ≡ false) × (e .passes ≤ n)
+Bounded e n = Over (e .answer) × (e .passes ≤ n)
 
 module _ (q : Shape) (vertex : Float) (ray : Ray) where
   turn-bounded : (x : Told Landing) (g : Bool) (left made : ℕ) → going x ≡ g → Bounded (passesFrom q vertex ray left (suc made) (x .value .t)) (suc made + left) →
@@ -68,13 +68,11 @@ module _ (q : Shape) (vertex : Float) (ray : Ray) where
   passes-bounded zero made t = (refl, omega arith)
   passes-bounded (suc left) made t = turn-bounded (passAt q vertex ray t) _ left made refl (passes-bounded left (suc made) _)
 
-  parallel : (b : Bool) → 0 < q .limit → Bounded (if b then ended (noCrossing 6) 1 else passesFrom q vertex ray (q .limit) 0 (vertexPlane vertex ray)) (q .limit)
-  parallel true h = (refl, omega arith)
-  parallel false h = let b = passes-bounded (q .limit) 0 (vertexPlane vertex ray) in (b .0, omega (arith, b .1))
-
   end-bounded : 0 < q .limit → Bounded (newtonEnd q vertex ray) (q .limit)
   unfolding newtonEnd
-  end-bounded h = parallel (magnitude (ray .direction .z) <₆₄ 1e-15) h
+  end-bounded h =
+      let b = passes-bounded (q .limit) 0 (vertexPlane vertex ray) in
+      either (λ e. Bounded e (q .limit)) (magnitude (ray .direction .z) <₆₄ 1e-15) _ _ (refl, omega arith) (b .0, omega (arith, b .1))
 
 -- a surface whose passes are a shape's
 module _ (s : Surface) (ray : Ray) (q : Shape) (same : (made : ℕ) (t : Float) → passRule s ray made t ≡ limitedPass q (s .vertex) ray made t) where
@@ -91,7 +89,7 @@ module _ (s : Surface) (ray : Ray) (q : Shape) (same : (made : ℕ) (t : Float) 
       rw (same made t) (chosen x _ n made refl (λ g. from-here n (suc made) (x .value .t) (more q (s .vertex) ray made t g) (omega arith))
       ∙ sym (step q (s .vertex) ray made t h))
 
-  by-passes : (t : Float) → surfaceEnd s ray ≡ newtonEnd q (s .vertex) ray → limitBy (s .kind) ≡ q .limit → 0 < q .limit → ChainEnds s ray t
+  by-passes : (t : Float) → surfaceEnd s ray ≡ newtonEnd q (s .vertex) ray → limitOf s ≡ q .limit → 0 < q .limit → ChainEnds s ray t
   by-passes t e l h =
       let b = end-bounded q (s .vertex) ray h in
       record {
@@ -101,7 +99,7 @@ module _ (s : Surface) (ray : Ray) (q : Shape) (same : (made : ℕ) (t : Float) 
       }
 
 by-kind : (k : Kind) (s : Surface) (ray : Ray) (t : Float) → s .kind ≡ k → ChainEnds s ray t
-unfolding passRule surfaceEnd chain
+unfolding passRule surfaceEnd limitOf chain
 by-kind (Conic c k) s ray t e =
     let x = crossed ray (conicOf s c k) in
     record { same = rw (e, x); ends = rw (e, x); within = rw e (omega arith) }

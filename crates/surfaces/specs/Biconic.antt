@@ -97,7 +97,7 @@ unfoldable pub biconicCrossingAnswer : BiconicSurface → Ray → Float → Told
 biconicCrossingAnswer s ray vertex = newtonAnswer (biconicGood s) (biconicShape (s .cx) (s .kx) (s .cy) (s .ky) (s .semi)) ray vertex
 
 unfoldable pub biconicParaxial : BiconicSurface → Told Meridians
-biconicParaxial s = if not (biconicGood s) then noPair 2 else gives (meridians (s .cx) (s .cy))
+biconicParaxial s = handedOut 2 noMeridians bothFinite (biconicGood s) (gives (meridians (s .cx) (s .cy)))
 
 -- the toroid's base curve in the y-z plane: its radicand, and its sag from the root s
 unfoldable pub baseCurveRadicand : Float → Float → Float → Float

@@ -41,32 +41,24 @@ slopesFrom (profile.Toroid rx cy ky) a p s part base = toroidSlopesFrom rx cy ky
 abbrev pub conicOf : Surface → Float → Float → ConicSurface
 conicOf s c k = conicSurface (s .vertex) c k (s .semi)
 
--- one pass over a surface, after `made` passes from t; a conic is met in one
-abbrev pub passBy : Kind → Surface → Ray → ℕ → Float → Told Landing
-passBy (Conic c k) s ray made t = conicCrossing ray (conicOf s c k)
-passBy (Even c k) s ray made t = limitedPass (evenShape c k (s .coefficients) (s .semi)) (s .vertex) ray made t
-passBy (Biconic cx kx cy ky) s ray made t = limitedPass (biconicShape cx kx cy ky (s .semi)) (s .vertex) ray made t
-passBy (Toroid rx cy ky) s ray made t = limitedPass (toroidShape rx cy ky (s .semi)) (s .vertex) ray made t
+-- how a surface is met, by its kind: a conic as a whole, the others by passes over their shape
+abbrev pub metBy : {A : Type 0} → Kind → Surface → (ConicSurface → A) → (Shape → A) → A
+metBy (Conic c k) s whole passes = whole (conicOf s c k)
+metBy (Even c k) s whole passes = passes (evenShape c k (s .coefficients) (s .semi))
+metBy (Biconic cx kx cy ky) s whole passes = passes (biconicShape cx kx cy ky (s .semi))
+metBy (Toroid rx cy ky) s whole passes = passes (toroidShape rx cy ky (s .semi))
 
+-- one pass over a surface, after `made` passes from t; a conic is met in one
 unfoldable pub passRule : Surface → Ray → ℕ → Float → Told Landing
-passRule s ray made t = passBy (s .kind) s ray made t
+passRule s ray made t = metBy (s .kind) s (λ q. conicCrossing ray q) (λ q. limitedPass q (s .vertex) ray made t)
 
 -- the end of a surface by its kind's own rule, with the passes that it takes
-abbrev pub endBy : Kind → Surface → Ray → Ended
-endBy (Conic c k) s ray = ended (conicCrossing ray (conicOf s c k)) 1
-endBy (Even c k) s ray = newtonEnd (evenShape c k (s .coefficients) (s .semi)) (s .vertex) ray
-endBy (Biconic cx kx cy ky) s ray = newtonEnd (biconicShape cx kx cy ky (s .semi)) (s .vertex) ray
-endBy (Toroid rx cy ky) s ray = newtonEnd (toroidShape rx cy ky (s .semi)) (s .vertex) ray
-
 unfoldable pub surfaceEnd : Surface → Ray → Ended
-surfaceEnd s ray = endBy (s .kind) s ray
+surfaceEnd s ray = metBy (s .kind) s (λ q. ended (conicCrossing ray q) 1) (λ q. newtonEnd q (s .vertex) ray)
 
 -- how many passes it may take
-abbrev pub limitBy : Kind → ℕ
-limitBy (Conic c k) = 1
-limitBy (Even c k) = 25
-limitBy (Biconic cx kx cy ky) = 35
-limitBy (Toroid rx cy ky) = 35
+unfoldable pub limitOf : Surface → ℕ
+limitOf s = metBy (s .kind) s (λ q. 1) (λ q. q .limit)
 
 -- passes one after another, so many at most
 unfoldable pub chain : Surface → Ray → ℕ → ℕ → Float → Ended
@@ -77,9 +69,9 @@ chain s ray (suc n) made t =
 
 -- a chain of passes ends as the kind's own rule says, within the kind's limit
 pub record ChainEnds (s : Surface) (ray : Ray) (t : Float) : Type 0 where
-  pub same : chain s ray (limitBy (s .kind)) 0 t ≡ surfaceEnd s ray
+  pub same : chain s ray (limitOf s) 0 t ≡ surfaceEnd s ray
   pub ends : going (surfaceEnd s ray .answer) ≡ false
-  pub within : surfaceEnd s ray .passes ≤ limitBy (s .kind)
+  pub within : surfaceEnd s ray .passes ≤ limitOf s
 
 abbrev pub normalBy : Kind → Surface → Vec3 → Told Vec3
 normalBy (Conic c k) s p = normalAt p (conicOf s c k)

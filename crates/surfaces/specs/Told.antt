@@ -85,7 +85,7 @@ after blank t next = if done t then next (t .value) else refused blank (t .line)
 
 -- 9 comes last: an answer with a number that is not finite
 abbrev pub checked9 : {A : Type 0} → A → (A → Bool) → Told A → Told A
-checked9 blank good t = if done t && not (good (t .value)) then refused blank (plain 9) else t
+checked9 blank fine t = if done t && not (fine (t .value)) then refused blank (plain 9) else t
 
 -- what a public function hands out: its refusal n of arguments that are not good, else the raw answer with 9 behind it
 abbrev pub handedOut : {A : Type 0} → ℕ → A → (A → Bool) → Bool → Told A → Told A

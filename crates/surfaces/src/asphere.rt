@@ -22,6 +22,7 @@ use crate::types::Coefficients;
 use crate::types::Meridians;
 use crate::types::Ray;
 use crate::types::Vec3;
+use crate::types::backwards;
 use crate::types::coefficients_good;
 use crate::types::no_coefficients;
 use crate::types::root_beside;
@@ -249,11 +250,7 @@ pub(crate) fn even_normal(c: f64, k: f64, a: Coefficients, x: f64, y: f64) -> Di
 {
     let r = sqrt(x * x + y * y);
     if r < 1e-15 {
-        return Direction::To(Vec3 {
-            x: 0.0,
-            y: 0.0,
-            z: -1.0,
-        });
+        return Direction::To(backwards());
     }
     match even_slope(c, k, a, r) {
         Number::Is(d) => even_facing(d * (x / r), d * (y / r)),
@@ -441,11 +438,7 @@ fn odd_normal(s: OddAsphere, x: f64, y: f64) -> Direction
     let r = sqrt(x * x + y * y);
     let odd = s.odd;
     if (r < 1e-15) & (abs(first_or_zero(odd)) < 1e-14) {
-        return Direction::To(Vec3 {
-            x: 0.0,
-            y: 0.0,
-            z: -1.0,
-        });
+        return Direction::To(backwards());
     }
     match odd_slope(s, r) {
         Number::Is(d) => {

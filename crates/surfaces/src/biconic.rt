@@ -232,10 +232,10 @@ impl BiconicSurface {
         if !self.is_good() {
             return Pair::Refused(Refusal::InvalidParameter);
         }
-        Pair::Both(Meridians {
+        checked_pair(Pair::Both(Meridians {
             x: self.cx,
             y: self.cy,
-        })
+        }))
     }
 }
 

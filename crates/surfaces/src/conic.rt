@@ -17,6 +17,7 @@ use crate::types::Landing;
 use crate::types::Ray;
 use crate::types::Vec3;
 use crate::types::all_finite;
+use crate::types::backwards;
 use crate::types::dot;
 use crate::types::over;
 use crate::types::point_at;
@@ -385,11 +386,7 @@ pub(crate) fn normal_at(p: Vec3, s: ConicSurface) -> Direction
     ensures { λ r. ⌜ toldDirection r ≡ normalAt p s ⌝ }
 {
     if abs(s.curvature) < 1e-15 {
-        Direction::To(Vec3 {
-            x: 0.0,
-            y: 0.0,
-            z: -1.0,
-        })
+        Direction::To(backwards())
     } else {
         raw_normal(p, s)
     }

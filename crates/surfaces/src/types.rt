@@ -2,7 +2,7 @@
 ghost use mathlib.Core.Path.{_≡_};
 ghost use lib.ListN.{take};
 ghost use Rattle.numbers.specs.Sqrt.{root};
-ghost use Rattle.surfaces.specs.Types.{dotOf, overOf, allFinite, rayFinite, pointAt, sameAbove0, rootAgain, everyFinite, coefficientsGood, noCoefficients};
+ghost use Rattle.surfaces.specs.Types.{backwards, dotOf, overOf, allFinite, rayFinite, pointAt, sameAbove0, rootAgain, everyFinite, coefficientsGood, noCoefficients};
 use numbers::is_finite;
 use numbers::sqrt;
 
@@ -40,6 +40,17 @@ pub struct Meridians {
 pub struct Coefficients {
     pub count: usize,
     pub values: [f64; 8],
+}
+
+// Against the light, which travels along z.
+pub(crate) fn backwards() -> Vec3
+    ensures { λ r. ⌜ r ≡ backwards ⌝ }
+{
+    Vec3 {
+        x: 0.0,
+        y: 0.0,
+        z: -1.0,
+    }
 }
 
 pub(crate) fn dot(a: Vec3, b: Vec3) -> f64

@@ -14,9 +14,10 @@ even-normal-spec =
     tie.close
     (tie.spec
     (λ c κs. tt)
+    (λ c κs. tt)
     (λ c.
-    let c1 = c .before in
-    rw (← c1 .sqrt .ensures, c .if1 .taken))
+    let c1 = c .before in let c2 = c1 .before in
+    rw (← c2 .sqrt .ensures, c1 .if1 .taken, ← c .backwards .ensures))
     (λ c κs. tt)
     (λ c. search needs)
     (λ c κs. tt)

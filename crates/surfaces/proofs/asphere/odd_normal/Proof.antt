@@ -16,9 +16,10 @@ odd-normal-spec =
     (λ c κs. tt)
     (λ c κs. tt)
     (λ c κs. tt)
+    (λ c κs. tt)
     (λ c.
-    let c1 = c .before in let c2 = c1 .before in let c4 = c2 .before .before in
-    rw (← c4 .sqrt .ensures, ← c2 .first-or-zero .ensures, ← c1 .abs .ensures, c .if1 .taken))
+    let c1 = c .before in let c2 = c1 .before in let c3 = c2 .before in let c5 = c3 .before .before in
+    rw (← c5 .sqrt .ensures, ← c3 .first-or-zero .ensures, ← c2 .abs .ensures, c1 .if1 .taken, ← c .backwards .ensures))
     (λ c κs. tt)
     (λ c. search needs)
     (λ c κs. tt)

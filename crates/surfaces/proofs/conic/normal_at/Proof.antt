@@ -12,9 +12,10 @@ normal-at-spec =
     (tie.spec
     (λ c κs. tt)
     (λ c κs. tt)
+    (λ c κs. tt)
     (λ c.
-    let c1 = c .before in
-    rw (← c1 .abs .ensures, c .if1 .taken))
+    let c1 = c .before in let c2 = c1 .before in
+    rw (← c2 .abs .ensures, c1 .if1 .taken, ← c .backwards .ensures))
     (λ c.
     let c1 = c .before in let c2 = c1 .before in
     rw (← c2 .abs .ensures, c1 .if1 .left, ← c .raw-normal .ensures)))

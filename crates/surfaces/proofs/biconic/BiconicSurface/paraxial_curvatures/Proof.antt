@@ -12,6 +12,7 @@ paraxial-curvatures-spec =
     (λ c.
     let c1 = c .before in
     rw (← c1 .is-good .ensures, c .if1 .taken))
+    (λ c κs. tt)
     (λ c.
-    let c1 = c .before in
-    rw (← c1 .is-good .ensures, c .if1 .left)))
+    let c1 = c .before in let c2 = c1 .before in
+    rw (← c2 .is-good .ensures, c1 .if1 .left, ← c .checked-pair .ensures)))

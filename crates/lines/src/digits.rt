@@ -1,8 +1,8 @@
 // Words that spell numbers.
 ghost use mathlib.Core.Path.{_≡_};
 ghost use Prim.Native.Nat.{_<_};
-ghost use lib.Ieee.{binary64, ofBits};
 ghost use Rattle.lines.specs.Digits.{digitValue, spelled, readCount, readFloat};
+use numbers::from_bits;
 
 pub enum ReadCount {
     Is(u64),
@@ -72,18 +72,7 @@ pub fn read_float(word: &[u8]) -> ReadFloat
         return ReadFloat::Unreadable;
     }
     match spelled(word, 16, u64::MAX) {
-        ReadCount::Is(bits) => ReadFloat::Is(float_of(bits)),
+        ReadCount::Is(bits) => ReadFloat::Is(from_bits(bits)),
         ReadCount::Unreadable => ReadFloat::Unreadable,
-    }
-}
-
-// `from_bits` takes no NaN's pattern.
-fn float_of(bits: u64) -> f64
-    ensures { λ r. ⌜ r ≡ ofBits binary64 bits ⌝ }
-{
-    if bits % 0x8000_0000_0000_0000 > 0x7ff0_0000_0000_0000 {
-        0.0 / 0.0
-    } else {
-        f64::from_bits(bits)
     }
 }

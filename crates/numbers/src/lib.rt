@@ -5,7 +5,7 @@ mod root;
 pub use root::root_exceeds;
 pub use root::sqrt;
 ghost use mathlib.Core.Path.{_≡_};
-ghost use lib.Ieee.{isNan};
+ghost use lib.Ieee.{binary64, ofBits, isNan};
 ghost use lib.Ieee.Scale.{finite};
 ghost use Rattle.numbers.specs.Basic.{magnitude, larger, clamped, infinite};
 
@@ -72,4 +72,15 @@ pub fn clamp(x: f64) -> f64
         return 1.0;
     }
     x
+}
+
+// `f64::from_bits` takes no NaN's pattern.
+pub fn from_bits(bits: u64) -> f64
+    ensures { λ r. ⌜ r ≡ ofBits binary64 bits ⌝ }
+{
+    if bits % 0x8000_0000_0000_0000 > 0x7ff0_0000_0000_0000 {
+        0.0 / 0.0
+    } else {
+        f64::from_bits(bits)
+    }
 }

@@ -17,7 +17,7 @@ read-float-spec =
     (λ c. search needs)
     (λ c.
     let c2 = c .before .before in let c4 = c2 .before .before in
-    rw (eq-eqb _ _ (c4 .before .if1 .left), ← c4 .spelled .ensures, c2 .bits .given .1, c .float-of .ensures))
+    rw (eq-eqb _ _ (c4 .before .if1 .left), ← c4 .spelled .ensures, c2 .bits .given .1, c .from-bits .ensures))
     (λ c.
     let c2 = c .before .before in
     rw (eq-eqb _ _ (c2 .before .if1 .left), ← c2 .spelled .ensures, c .enum-told .given .1)))

@@ -89,7 +89,7 @@ module _ (s : Surface) (ray : Ray) (q : Shape) (same : (made : ℕ) (t : Float) 
       rw (same made t) (chosen x _ n made refl (λ g. from-here n (suc made) (x .value .t) (more q (s .vertex) ray made t g) (omega arith))
       ∙ sym (step q (s .vertex) ray made t h))
 
-  by-passes : (t : Float) → surfaceEnd s ray ≡ newtonEnd q (s .vertex) ray → limitOf s ≡ q .limit → 0 < q .limit → ChainEnds s ray t
+  by-passes : (t : Float) → surfaceEnd s ray ≡ newtonEnd q (s .vertex) ray → limitOf (s .kind) ≡ q .limit → 0 < q .limit → ChainEnds s ray t
   by-passes t e l h =
       let b = end-bounded q (s .vertex) ray h in
       record {

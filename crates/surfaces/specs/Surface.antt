@@ -4,7 +4,7 @@ use mathlib.Core.Path.{_≡_}
 use mathlib.Core.Bool.{false}
 use lib.Ieee.{Float}
 use Rattle.numbers.specs.Arithmetic.{_<₆₄_, if_then_else_, 0f}
-use Rattle.surfaces.specs.Types.{dotOf}
+use Rattle.surfaces.specs.Types.{dotOf, noCoefficients}
 use Rattle.surfaces.specs.Told.{Told, Ended, gives, after, again, ended, noLeaving}
 use Rattle.surfaces.specs.Snell.{reflected, refracted}
 use Rattle.surfaces.specs.Conic.{conicSurface, conicCrossing, normalAt}
@@ -56,9 +56,13 @@ passRule s ray made t = metBy (s .kind) s (λ q. conicCrossing ray q) (λ q. lim
 unfoldable pub surfaceEnd : Surface → Ray → Ended
 surfaceEnd s ray = metBy (s .kind) s (λ q. ended (conicCrossing ray q) 1) (λ q. newtonEnd q (s .vertex) ray)
 
--- how many passes it may take
-unfoldable pub limitOf : Surface → ℕ
-limitOf s = metBy (s .kind) s (λ q. 1) (λ q. q .limit)
+-- a surface of a kind, and nothing else of it
+abbrev pub blank : Kind → Surface
+blank k = record { vertex = 0f; semi = 0f; kind = k; coefficients = noCoefficients }
+
+-- how many passes a kind may take
+unfoldable pub limitOf : Kind → ℕ
+limitOf k = metBy k (blank k) (λ q. 1) (λ q. q .limit)
 
 -- passes one after another, so many at most
 unfoldable pub chain : Surface → Ray → ℕ → ℕ → Float → Ended
@@ -69,9 +73,9 @@ chain s ray (suc n) made t =
 
 -- a chain of passes ends as the kind's own rule says, within the kind's limit
 pub record ChainEnds (s : Surface) (ray : Ray) (t : Float) : Type 0 where
-  pub same : chain s ray (limitOf s) 0 t ≡ surfaceEnd s ray
+  pub same : chain s ray (limitOf (s .kind)) 0 t ≡ surfaceEnd s ray
   pub ends : going (surfaceEnd s ray .answer) ≡ false
-  pub within : surfaceEnd s ray .passes ≤ limitOf s
+  pub within : surfaceEnd s ray .passes ≤ limitOf (s .kind)
 
 abbrev pub normalBy : Kind → Surface → Vec3 → Told Vec3
 normalBy (Conic c k) s p = normalAt p (conicOf s c k)

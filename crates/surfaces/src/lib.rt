@@ -37,6 +37,7 @@ pub use surface::Leaving;
 pub use surface::Passed;
 pub use surface::Surface;
 pub use surface::Turned;
+pub use surface::limit;
 pub use surface::pass;
 pub use surface::turn;
 pub use types::Coefficients;

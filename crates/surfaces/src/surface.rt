@@ -5,7 +5,7 @@ ghost use Rattle.numbers.specs.Sqrt.{root};
 ghost use Rattle.surfaces.specs.Types.{noCoefficients};
 ghost use Rattle.surfaces.specs.Told.{toldPair, toldDirection, toldCrossing, toldDepth, toldPassed, toldEnd, toldTurned, noCrossing};
 ghost use Rattle.surfaces.specs.Newton.{arrivedAt, movedBy, passAt, vertexPlane, nextPass, limitedPass, newtonEnd, canBeMet};
-ghost use Rattle.surfaces.specs.Surface.{shapeOf, slopesFrom, conicOf, passRule, surfaceNormal, onwardFrom, turnRule};
+ghost use Rattle.surfaces.specs.Surface.{shapeOf, slopesFrom, conicOf, passRule, limitOf, surfaceNormal, onwardFrom, turnRule};
 use crate::asphere::Depth;
 use crate::asphere::even_depth;
 use crate::asphere::even_normal;
@@ -107,7 +107,7 @@ fn checks_last(q: Profile) -> bool
     }
 }
 
-fn limit(q: Profile) -> u16
+fn profile_limit(q: Profile) -> u16
     ensures { λ n. ⌜ n ≡ shapeOf q noCoefficients 0f .limit ⌝ }
 {
     match q {
@@ -229,7 +229,7 @@ fn limited_pass(
     let x = next_pass(q, a, semi, vertex, ray, made, t);
     match x {
         Passed::Again(_) => {
-            if limit(q) as usize <= made as usize + 1 {
+            if profile_limit(q) as usize <= made as usize + 1 {
                 missed()
             } else {
                 x
@@ -311,6 +311,18 @@ pub fn pass(s: Surface, ray: Ray, made: u16, t: f64) -> Passed
             made,
             t,
         ),
+    }
+}
+
+// How many passes a surface of a kind may take.
+pub fn limit(kind: Kind) -> u16
+    ensures { λ n. ⌜ n ≡ limitOf kind ⌝ }
+{
+    match kind {
+        Kind::Conic(_, _) => 1,
+        Kind::Even(c, k) => profile_limit(Profile::Even(c, k)),
+        Kind::Biconic(cx, kx, cy, ky) => profile_limit(Profile::Biconic(cx, kx, cy, ky)),
+        Kind::Toroid(rx, cy, ky) => profile_limit(Profile::Toroid(rx, cy, ky)),
     }
 }
 

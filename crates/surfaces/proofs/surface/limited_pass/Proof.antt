@@ -25,10 +25,10 @@ limited-pass-spec =
     (λ c. search needs)
     (λ c.
     let c1 = c .before in let c2 = c1 .before in let c3 = c2 .before in let c5 = c3 .before .before in
-    rw (← c5 .next-pass .ensures, c3 .enum-told .given .1, kind-alone _ _ noCoefficients _ 0f .1, ← c2 .limit .ensures, le-leb _ _ (c1 .if1 .taken), ← c .missed .ensures))
+    rw (← c5 .next-pass .ensures, c3 .enum-told .given .1, kind-alone _ _ noCoefficients _ 0f .1, ← c2 .profile-limit .ensures, le-leb _ _ (c1 .if1 .taken), ← c .missed .ensures))
     (λ c.
     let c1 = c .before in let c2 = c1 .before in let c4 = c2 .before .before in
-    rw (← c4 .next-pass .ensures, c2 .enum-told .given .1, kind-alone _ _ noCoefficients _ 0f .1, ← c1 .limit .ensures, lt-leb _ _ (c .if1 .left)))
+    rw (← c4 .next-pass .ensures, c2 .enum-told .given .1, kind-alone _ _ noCoefficients _ 0f .1, ← c1 .profile-limit .ensures, lt-leb _ _ (c .if1 .left)))
     (λ c.
     let c2 = c .before .before in
     rw (← c2 .next-pass .ensures, c .enum-told2 .given .1))

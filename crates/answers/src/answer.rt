@@ -21,6 +21,7 @@ use surfaces::Refusal;
 use surfaces::Sag;
 use surfaces::Vec3;
 use surfaces::Verdict;
+use surfaces::line_of;
 
 // Document 01's number, or 0 for a line that cannot be read, and the first `count` of the values. An odd asphere has the most.
 pub struct Answer {
@@ -115,15 +116,12 @@ impl Answer {
 }
 
 pub(crate) fn refused(e: Refusal) -> Answer {
-    match e {
-        Refusal::InvalidParameter => numbered(2),
-        Refusal::InvalidSurface => numbered(3),
-        Refusal::NumericalSingularity => numbered(4),
-        Refusal::GeometryOutsideAperture => numbered(5),
-        Refusal::RayMissedSurface => numbered(6),
-        Refusal::RayVignetted(r, limit) => numbered(7).with(r).with(limit),
-        Refusal::TotalInternalReflection => numbered(8),
-        Refusal::NotFinite => numbered(9),
+    let line = line_of(e);
+    let answer = numbered(line.number as u64);
+    if line.number == 7 {
+        answer.with(line.r).with(line.limit)
+    } else {
+        answer
     }
 }
 

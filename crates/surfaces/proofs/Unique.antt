@@ -2,11 +2,12 @@
 use mathlib.Core.Path.{_≡_, refl, sym, ap, _∙_}
 use lib.Dec.{eqb}
 use Rattle.numbers.specs.Arithmetic.{if_then_else_}
-use Rattle.surfaces.specs.Told.{Told, Line, done, lineOf, verdictLine, toldNumber, toldSag, toldPair, toldDirection, toldCrossing, toldMeet, toldConic, toldEven, toldOdd, toldBiconic, toldToroid, toldPassed, toldTurned, OneToOne, ToldOneToOne}
+use Rattle.surfaces.specs.Told.{Told, done, lineOf, verdictLine, toldNumber, toldSag, toldPair, toldDirection, toldCrossing, toldMeet, toldConic, toldEven, toldOdd, toldBiconic, toldToroid, toldPassed, toldTurned, OneToOne, ToldOneToOne}
 use Rattle.surfaces.specs.Newton.{going}
 use Rattle.surfaces.specs.declared.types.Landing.{Landing}
 use Rattle.surfaces.specs.declared.refusal.Refusal.{Refusal}
 use Rattle.surfaces.specs.declared.refusal.Refusal.the-variants.{InvalidParameter, InvalidSurface, NumericalSingularity, GeometryOutsideAperture, RayMissedSurface, RayVignetted, TotalInternalReflection, NotFinite}
+use Rattle.surfaces.specs.declared.refusal.Line.{Line}
 use Rattle.surfaces.specs.declared.refusal.Verdict.{Verdict}
 use Rattle.surfaces.specs.declared.refusal.Verdict.the-variants as verdict
 use Rattle.surfaces.specs.declared.refusal.Number.the-variants as number

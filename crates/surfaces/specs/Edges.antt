@@ -10,7 +10,7 @@ use Rattle.numbers.specs.Arithmetic.{if_then_else_, decimal, 0f, ½, 1f, 2f, 4f
 use Rattle.numbers.specs.Basic.{magnitude, negative, larger, clamped, infinite}
 use Rattle.numbers.specs.Sqrt.{root}
 use Rattle.surfaces.specs.Types.{vec, backwards, dotOf, overOf, distance, pointAt, allFinite, rayFinite, landing, bothFinite, noLanding, landingFinite, noHit, hitFinite, noCoefficients, everyFinite, coefficientsGood}
-use Rattle.surfaces.specs.Told.{Told, Line, Ended, plain, vignetted, gives, refused, noNumber, noPair, noDirection, noCrossing, noConic, noLeaving, ended, sagOf}
+use Rattle.surfaces.specs.Told.{Told, Ended, plain, vignetted, gives, refused, noNumber, noPair, noDirection, noCrossing, noConic, noLeaving, ended, sagOf}
 use Rattle.surfaces.specs.Snell.{turnedIf, negatedIf, mirrored, reflected, reflectAnswer, bent, refracted, refractAnswer}
 use Rattle.surfaces.specs.Conic.{conicSurface, curvatureOf, fromRadius, fromCurvature, conicSag, conicSagAnswer, gradientNormal, conicNormal, conicNormalAnswer, conicFinite, landedWithin, planeCrossing, onSheet, firstOn, kept, firstRoot, secondRoot, ascending, quadraticOf, signOf, curvedCrossing, conicCrossing, normalAt, hitAt, meetRule, meetAnswer}
 use Rattle.surfaces.specs.Newton.{arrivedAt, movedBy, passAt, vertexPlane, passesFrom, newtonEnd, nextPass, limitedPass}
@@ -23,6 +23,7 @@ use Rattle.surfaces.specs.declared.types.Landing.{Landing}
 use Rattle.surfaces.specs.declared.types.HitRecord.{HitRecord}
 use Rattle.surfaces.specs.declared.types.Meridians.{Meridians}
 use Rattle.surfaces.specs.declared.types.Coefficients.{Coefficients}
+use Rattle.surfaces.specs.declared.refusal.Line.{Line}
 use Rattle.surfaces.specs.declared.conic.ConicSurface.{ConicSurface}
 use Rattle.surfaces.specs.declared.asphere.EvenAsphere.{EvenAsphere}
 use Rattle.surfaces.specs.declared.biconic.ToroidalSurface.{ToroidalSurface}

@@ -13,6 +13,7 @@ use Rattle.surfaces.specs.declared.types.HitRecord.{HitRecord}
 use Rattle.surfaces.specs.declared.types.Meridians.{Meridians}
 use Rattle.surfaces.specs.declared.refusal.Refusal.{Refusal}
 use Rattle.surfaces.specs.declared.refusal.Refusal.the-variants.{InvalidParameter, InvalidSurface, NumericalSingularity, GeometryOutsideAperture, RayMissedSurface, RayVignetted, TotalInternalReflection, NotFinite}
+use Rattle.surfaces.specs.declared.refusal.Line.{Line}
 use Rattle.surfaces.specs.declared.refusal.Verdict.{Verdict}
 use Rattle.surfaces.specs.declared.refusal.Verdict.the-variants as verdict
 use Rattle.surfaces.specs.declared.refusal.Number.{Number}
@@ -51,13 +52,7 @@ use Rattle.surfaces.specs.declared.surface.Leaving.{Leaving}
 use Rattle.surfaces.specs.declared.surface.Turned.{Turned}
 use Rattle.surfaces.specs.declared.surface.Turned.the-variants as turned
 
--- a line of the table "What comes back": its number, and r and the semi-diameter, which a 7 names
-pub record Line : Type 0 where
-  pub number : ℕ
-  pub r : Float
-  pub limit : Float
-
--- what is told: a line of the table, and the answer's own values
+-- what is told: a line of the table "What comes back", and the answer's own values
 pub record Told (A : Type 0) : Type 0 where
   pub line : Line
   pub value : A

@@ -3,7 +3,7 @@ ghost use mathlib.Core.Path.{_≡_};
 ghost use lib.Ieee.Scale.{finite};
 ghost use Rattle.numbers.specs.Arithmetic.{0f};
 ghost use Rattle.surfaces.specs.Types.{zeros, allFinite, noMeridians, bothFinite, noLanding, landingFinite};
-ghost use Rattle.surfaces.specs.Told.{checked9, toldNumber, toldSag, toldPair, toldDirection, toldCrossing};
+ghost use Rattle.surfaces.specs.Told.{plain, lineOf, checked9, toldNumber, toldSag, toldPair, toldDirection, toldCrossing};
 use crate::types::Landing;
 use crate::types::Meridians;
 use crate::types::Vec3;
@@ -20,6 +20,42 @@ pub enum Refusal {
     RayVignetted(f64, f64),
     TotalInternalReflection,
     NotFinite,
+}
+
+// A line of document 01's table: its number, and r and the semi-diameter, which a 7 names and no other.
+pub struct Line {
+    pub number: u8,
+    pub r: f64,
+    pub limit: f64,
+}
+
+fn plain(number: u8) -> Line
+    ensures { λ l. ⌜ l ≡ plain number ⌝ }
+{
+    Line {
+        number,
+        r: 0.0,
+        limit: 0.0,
+    }
+}
+
+pub fn line_of(e: Refusal) -> Line
+    ensures { λ l. ⌜ l ≡ lineOf e ⌝ }
+{
+    match e {
+        Refusal::InvalidParameter => plain(2),
+        Refusal::InvalidSurface => plain(3),
+        Refusal::NumericalSingularity => plain(4),
+        Refusal::GeometryOutsideAperture => plain(5),
+        Refusal::RayMissedSurface => plain(6),
+        Refusal::RayVignetted(r, limit) => Line {
+            number: 7,
+            r,
+            limit,
+        },
+        Refusal::TotalInternalReflection => plain(8),
+        Refusal::NotFinite => plain(9),
+    }
 }
 
 // Whether a surface is accepted that stands beside, since no enum holds an array.

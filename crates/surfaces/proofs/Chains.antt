@@ -2,56 +2,27 @@
 use Prim.Native.Nat.{ℕ, zero, suc, _+_, _<_, _≤_}
 use mathlib.Core.Path.{_≡_, refl, sym, _∙_}
 use mathlib.Core.Bool.{Bool, true, false}
-use mathlib.Core.List.{List, [], _∷_}
 use native.Mathlib.Omega.{arith}
-use lib.Ieee.{Float, neg}
-use Rattle.numbers.specs.Arithmetic.{if_then_else_, _-₆₄_, _*₆₄_, _/₆₄_, _<₆₄_, 0f, 4f, 1e-7, 1e-15}
+use lib.Ieee.{Float}
+use Rattle.numbers.specs.Arithmetic.{if_then_else_, _<₆₄_, 1e-15}
 use Rattle.numbers.specs.Basic.{magnitude}
-use Rattle.surfaces.specs.Types.{pointAt, distance}
 use Rattle.surfaces.specs.Told.{Told, Ended, ended}
-use Rattle.surfaces.specs.Conic.{landedWithin, planeCrossing, onSheet, firstOn, quadraticOf, curvedCrossing, conicCrossing}
 use Rattle.surfaces.specs.Newton.{Shape, going, passAt, vertexPlane, passesFrom, newtonEnd, limitedPass}
 use Rattle.surfaces.specs.Asphere.{evenShape}
 use Rattle.surfaces.specs.Biconic.{biconicShape, toroidShape}
 use Rattle.surfaces.specs.Surface.{conicOf, passRule, surfaceEnd, limitOf, chain, ChainEnds}
-use Rattle.surfaces.specs.declared.types.Vec3.{Vec3}
 use Rattle.surfaces.specs.declared.types.Ray.{Ray}
 use Rattle.surfaces.specs.declared.types.Landing.{Landing}
-use Rattle.surfaces.specs.declared.conic.ConicSurface.{ConicSurface}
 use Rattle.surfaces.specs.declared.surface.Kind.{Kind}
 use Rattle.surfaces.specs.declared.surface.Kind.the-variants.{Conic, Even, Biconic, Toroid}
 use Rattle.surfaces.specs.declared.surface.Surface.{Surface}
 use Rattle.surfaces.proofs.Choice.{either}
 use Rattle.surfaces.proofs.Passes.{onFrom, next, step, more}
+use Rattle.surfaces.proofs.Stops.{at-once}
 
 -- what does not go on
 abbrev Over : Told Landing → Type 0
 Over x = going x ≡ false
-
-landed : (t : Float) (p : Vec3) (r semi : Float) → Over (landedWithin t p r semi)
-unfolding landedWithin
-landed t p r semi = either Over (semi <₆₄ r) _ _ refl refl
-
-module _ (ray : Ray) (s : ConicSurface) where
-  first : (l : List Float) → Over (firstOn ray s l)
-  unfolding firstOn
-  first [] = refl
-  first (t ∷ l) =
-      let p = pointAt ray t in
-      let r = distance (p .x) (p .y) in
-      either Over (onSheet s p r) (landedWithin t p r (s .semi)) (firstOn ray s l) (landed t p r (s .semi)) (first l)
-
-  plane : Over (planeCrossing ray s)
-  unfolding planeCrossing
-  plane = either Over (magnitude (ray .direction .z) <₆₄ 1e-15) _ _ refl (either Over (neg (ray .origin .z -₆₄ s .vertex) /₆₄ ray .direction .z <₆₄ neg 1e-7) _ _ refl (landed _ _ _ _))
-
-  curved : Over (curvedCrossing ray s)
-  unfolding curvedCrossing
-  curved = let e = quadraticOf ray s in either Over (e .b *₆₄ e .b -₆₄ 4f *₆₄ e .a *₆₄ e .c <₆₄ 0f) _ _ refl (first _)
-
-  crossed : Over (conicCrossing ray s)
-  unfolding conicCrossing
-  crossed = either Over (magnitude (s .curvature) <₆₄ 1e-15) (planeCrossing ray s) (curvedCrossing ray s) plane curved
 
 -- how Newton's method ends
 abbrev Bounded : Ended → ℕ → Type 0
@@ -101,7 +72,7 @@ module _ (s : Surface) (ray : Ray) (q : Shape) (same : (made : ℕ) (t : Float) 
 by-kind : (k : Kind) (s : Surface) (ray : Ray) (t : Float) → s .kind ≡ k → ChainEnds s ray t
 unfolding passRule surfaceEnd limitOf chain
 by-kind (Conic c k) s ray t e =
-    let x = crossed ray (conicOf s c k) in
+    let x = at-once ray (conicOf s c k) in
     record { same = rw (e, x); ends = rw (e, x); within = rw e (omega arith) }
 by-kind (Even c k) s ray t e = by-passes s ray (evenShape c k (s .coefficients) (s .semi)) (λ made u. rw e) t (rw e) (rw e) (omega arith)
 by-kind (Biconic cx kx cy ky) s ray t e = by-passes s ray (biconicShape cx kx cy ky (s .semi)) (λ made u. rw e) t (rw e) (rw e) (omega arith)

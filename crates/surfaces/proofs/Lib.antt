@@ -5,5 +5,6 @@ pub mod Terms
 pub mod Again
 pub mod Shared
 pub mod Passes
+pub mod Stops
 pub mod Unique
 pub mod Chains

@@ -60,5 +60,5 @@ module _ (q : Shape) (vertex : Float) (ray : Ray) where
   unfolding limitedPass
   more made t h = last (q .limit) made (nextPass q vertex ray made t) _ _ refl refl h
 
-  pub stops : (made : ℕ) (x : Told Landing) → going x ≡ false → next made x ≡ ended x (suc made)
-  stops made x e = rw e
+  pub no-more : (made : ℕ) (x : Told Landing) → going x ≡ false → next made x ≡ ended x (suc made)
+  no-more made x e = rw e

@@ -3,7 +3,7 @@
 use Prim.Native.Nat.{ℕ}
 use mathlib.Core.Bool.{Bool, false, not, _&&_, _||_}
 use mathlib.Core.Path.{_≡_}
-use lib.Dec.{eqb}
+use lib.Dec.{eqb, leb}
 use lib.Ieee.{Float}
 use Rattle.numbers.specs.Arithmetic.{_<₆₄_, if_then_else_, 0f}
 use Rattle.surfaces.specs.Types.{zeros, noMeridians, landing, noLanding, noHit, noCoefficients}
@@ -73,6 +73,10 @@ refused blank l = record { line = l; value = blank }
 
 abbrev pub done : {A : Type 0} → Told A → Bool
 done t = eqb (t .line .number) 1
+
+-- the numbers that stop a trace at a surface: 2, and 4 to 9
+unfoldable pub stops : ℕ → Bool
+stops n = eqb n 2 || (leb 4 n && leb n 9)
 
 -- what follows from an answer, or its refusal passed on
 abbrev pub after : {A B : Type 0} → B → Told A → (A → Told B) → Told B

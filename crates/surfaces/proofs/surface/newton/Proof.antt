@@ -13,7 +13,7 @@ use Rattle.surfaces.specs.declared.types.Coefficients.{Coefficients}
 use Rattle.surfaces.specs.declared.surface.Profile.{Profile}
 use Rattle.surfaces.specs.declared.surface.Profile.the-variants.{Even, Biconic, Toroid}
 use Rattle.surfaces.specs.declared.surface.Passed.{Passed}
-use Rattle.surfaces.proofs.Passes.{onFrom, next, step, more, stops}
+use Rattle.surfaces.proofs.Passes.{onFrom, next, step, more, no-more}
 use Rattle.surfaces.proofs.Refusals.{never-going}
 use Rattle.surfaces.proofs.surface.newton.Statement.{statement}
 use Rattle.surfaces.proofs.surface.newton.Tie as tie
@@ -74,7 +74,7 @@ returns : tie.Need-returns Inv-loop μ-loop
 returns c =
     let p = c .before in
     let a = p .before .before .args in
-    let done = stops (shapeOf (a .q) (a .a) (a .semi)) (a .vertex) (a .ray) (p .before .loop .made) in
+    let done = no-more (shapeOf (a .q) (a .a) (a .semi)) (a .vertex) (a .ray) (p .before .loop .made) in
     rw add-one
     (⊎-elim
     (λ w. rw (w .3) (sym (done _ refl) ∙ came p _ (w .1 .given .1)))

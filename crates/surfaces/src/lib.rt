@@ -48,3 +48,5 @@ pub use types::Landing;
 pub use types::Meridians;
 pub use types::Ray;
 pub use types::Vec3;
+pub use types::all_finite;
+pub use types::ray_finite;

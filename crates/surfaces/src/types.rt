@@ -69,13 +69,13 @@ pub(crate) fn over(a: Vec3, s: f64) -> Vec3
     }
 }
 
-pub(crate) fn all_finite(a: Vec3) -> bool
+pub fn all_finite(a: Vec3) -> bool
     ensures { λ r. ⌜ r ≡ allFinite a ⌝ }
 {
     is_finite(a.x) & is_finite(a.y) & is_finite(a.z)
 }
 
-pub(crate) fn ray_finite(ray: Ray) -> bool
+pub fn ray_finite(ray: Ray) -> bool
     ensures { λ r. ⌜ r ≡ rayFinite ray ⌝ }
 {
     let o = ray.origin;

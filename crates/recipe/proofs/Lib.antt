@@ -1,0 +1,8 @@
+-- Laws that several proofs use.
+pub mod Shapes
+pub mod Numbers
+pub mod Records
+pub mod Scans
+pub mod Chain
+pub mod Notes
+pub mod Checks

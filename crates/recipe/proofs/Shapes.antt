@@ -1,0 +1,96 @@
+-- What the shape of a record tells of its places: all that is read of it lies within it, and it within the recipe. Assumes nothing.
+use Prim.Native.Nat.{ℕ, _+_, _-_, _*_, _/_, _%_, _≤_}
+use mathlib.Core.Path.{_≡_, refl}
+use mathlib.Core.Bool.{Bool, true, false, _&&_, false≢true}
+use mathlib.Core.List.{List}
+use native.Mathlib.Omega.{arith}
+use lib.ListN.{length}
+use lib.Dec.{eqb, leb, lit≤}
+use borrow.Author.Tests.{leb-true, leb-false, eqb-true, le-leb, lt-leb}
+use Rattle.numbers.specs.Arithmetic.{if_then_else_}
+use Rattle.surfaces.proofs.Choice.{either}
+use Rattle.recipe.specs.Source.{isSource}
+use Rattle.recipe.specs.Record.{lengthAt, kindAt, lengthFits, shapedAt, semiSlot, coefficientCount}
+
+-- a length that a kind has, and what it has room for
+pub record Fitting (kind len : ℕ) : Type 0 where
+  pub least : 42 ≤ len
+  pub most : len ≤ 106
+  pub numbers : 2 + 8 * (len / 8) ≤ len
+  pub semi : 10 + 8 * semiSlot kind ≤ len
+  pub count : coefficientCount kind len ≤ 8
+  pub terms : 42 + 8 * coefficientCount kind len ≤ len
+
+-- a record at a place of so many bytes
+pub record Shape (n at kind len : ℕ) : Type 0 where
+  pub head : at + 4 ≤ n
+  pub inside : at + 2 + len ≤ n
+  pub fitting : Fitting kind len
+
+-- every kind has four numbers before its semi-diameter, and a biconic has six
+pub semi-least : (kind : ℕ) → 4 ≤ semiSlot kind
+unfolding semiSlot
+semi-least kind = either (λ n. 4 ≤ n) (eqb kind 3) _ _ (lit≤ tt) (either (λ n. 4 ≤ n) (eqb kind 4) _ _ (lit≤ tt) (lit≤ tt))
+
+pub semi-biconic : (kind : ℕ) → kind ≡ 3 → semiSlot kind ≡ 6
+unfolding semiSlot
+semi-biconic kind e = rw e
+
+-- a test of a place is one of the room behind it
+pub room-test : (n at k : ℕ) → at ≤ n → leb (2 + k) (n - at) ≡ leb (at + 2 + k) n
+room-test n at k h = by (leb (at + 2 + k) n) refl
+  where
+    by : (t : Bool) → leb (at + 2 + k) n ≡ t → leb (2 + k) (n - at) ≡ t
+    by true e = le-leb (2 + k) (n - at) (omega (arith, leb-true (at + 2 + k) n e))
+    by false e = lt-leb (2 + k) (n - at) (omega (arith, leb-false (at + 2 + k) n e))
+
+pub both : (a b : Bool) → (a && b) ≡ true → (a ≡ true) × (b ≡ true)
+both true b h = (refl, h)
+both false b h = absurd (false≢true h)
+
+conic-fits : (kind len : ℕ) → kind ≡ 1 → len ≡ 42 → Fitting kind len
+unfolding semiSlot coefficientCount
+conic-fits kind len k l = rw (k, l) (record { least = lit≤ tt; most = lit≤ tt; numbers = lit≤ tt; semi = lit≤ tt; count = lit≤ tt; terms = lit≤ tt })
+
+even-fits : (kind len : ℕ) → kind ≡ 2 → 42 ≤ len → len ≤ 106 → len % 8 ≡ 2 → Fitting kind len
+unfolding semiSlot coefficientCount
+even-fits kind len k l m n = rw k (record { least = l; most = m; numbers = omega arith; semi = l; count = omega arith; terms = omega arith })
+
+biconic-fits : (kind len : ℕ) → kind ≡ 3 → len ≡ 58 → Fitting kind len
+unfolding semiSlot coefficientCount
+biconic-fits kind len k l = rw (k, l) (record { least = lit≤ tt; most = lit≤ tt; numbers = lit≤ tt; semi = lit≤ tt; count = lit≤ tt; terms = lit≤ tt })
+
+toroid-fits : (kind len : ℕ) → kind ≡ 4 → len ≡ 50 → Fitting kind len
+unfolding semiSlot coefficientCount
+toroid-fits kind len k l = rw (k, l) (record { least = lit≤ tt; most = lit≤ tt; numbers = lit≤ tt; semi = lit≤ tt; count = lit≤ tt; terms = lit≤ tt })
+
+fits : (kind len : ℕ) → lengthFits kind len ≡ true → Fitting kind len
+unfolding lengthFits
+fits kind len = by (eqb kind 1) refl (eqb kind 2) refl (eqb kind 3) refl
+  where
+    by : (t : Bool) → eqb kind 1 ≡ t → (u : Bool) → eqb kind 2 ≡ u → (v : Bool) → eqb kind 3 ≡ v
+        → (if t then eqb len 42 else if u then leb 42 len && leb len 106 && eqb (len % 8) 2 else if v then eqb len 58 else eqb kind 4 && eqb len 50) ≡ true
+        → Fitting kind len
+    by true t u _ v _ h = conic-fits kind len (eqb-true kind 1 t) (eqb-true len 42 h)
+    by false _ true u v _ h =
+        let p = both (leb 42 len && leb len 106) _ h in let q = both (leb 42 len) _ (p .0) in
+        even-fits kind len (eqb-true kind 2 u) (leb-true 42 len (q .0)) (leb-true len 106 (q .1)) (eqb-true (len % 8) 2 (p .1))
+    by false _ false _ true v h = biconic-fits kind len (eqb-true kind 3 v) (eqb-true len 58 h)
+    by false _ false _ false _ h = let p = both (eqb kind 4) _ h in toroid-fits kind len (eqb-true kind 4 (p .0)) (eqb-true len 50 (p .1))
+
+pub shape : (b : List ℕ) (at : ℕ) {len kind : ℕ} → shapedAt b at ≡ true → len ≡ lengthAt b at → kind ≡ kindAt b at → Shape (length b) at (kind % 256) len
+unfolding shapedAt
+shape b at h l k =
+    let p = both _ (lengthFits (kindAt b at % 256) (lengthAt b at)) h in
+    let q = both _ (leb (kindAt b at / 256) 1) (p .0) in
+    let r = both (leb (at + 4) (length b)) _ (q .0) in
+    rw (l, k)
+    (record {
+      head = leb-true (at + 4) (length b) (r .0);
+      inside = leb-true (at + 2 + lengthAt b at) (length b) (r .1);
+      fitting = fits (kindAt b at % 256) (lengthAt b at) (p .1);
+    })
+
+pub source-room : (b : List ℕ) → isSource b ≡ true → 60 ≤ length b
+unfolding isSource
+source-room b h = leb-true 60 (length b) (both (leb 60 (length b)) _ (both _ (eqb (kindAt b 0) 0) h .0) .0)

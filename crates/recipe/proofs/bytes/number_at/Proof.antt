@@ -1,0 +1,14 @@
+-- What is returned follows from the tests and the calls on the way, in their order. Assumes nothing.
+use borrow.Author.Needs.{needs}
+use Rattle.recipe.specs.Bytes.{numberAt}
+use Rattle.recipe.proofs.bytes.number_at.Statement.{statement}
+use Rattle.recipe.proofs.bytes.number_at.Tie as tie
+
+pub number-at-spec : {M : Type 1} → statement M
+unfolding numberAt
+number-at-spec =
+    tie.close
+    (tie.spec
+    (λ c κs. search needs)
+    (λ c κs. tt)
+    (λ c. rw (← c .before .u64-at .ensures, ← c .from-bits .ensures)))

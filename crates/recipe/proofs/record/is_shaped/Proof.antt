@@ -1,0 +1,28 @@
+-- What is returned follows from the tests and the calls on the way, in their order. Assumes nothing.
+use Prim.Native.Nat.{_+_, _≤_}
+use native.Mathlib.Omega.{arith}
+use borrow.Author.Needs.{needs}
+use borrow.Author.Tests.{le-leb, lt-leb}
+use lib.ListN.{length}
+use Rattle.recipe.specs.Record.{shapedAt}
+use Rattle.recipe.proofs.Shapes.{room-test}
+use Rattle.recipe.proofs.record.is_shaped.Statement.{statement}
+use Rattle.recipe.proofs.record.is_shaped.Tie as tie
+
+pub is-shaped-spec : {M : Type 1} → statement M
+unfolding shapedAt
+is-shaped-spec =
+    tie.close
+    (tie.spec
+    (λ c. let a = c .before .before .args in rw (lt-leb (a .at + 4) (length (a .s .now)) (omega arith)))
+    (λ c. search needs)
+    (λ c. let a = c .before .before .before .args in rw (lt-leb (a .at + 4) (length (a .s .now)) (omega arith)))
+    (λ c κs. search needs)
+    (λ c. search needs)
+    (λ c κs. search needs)
+    (λ c. search needs)
+    (λ c κs. tt)
+    (λ c.
+    let c1 = c .before in let c2 = c1 .before in let a = c2 .before .before .before .before .args in
+    let n = length (a .s .now) in let h : a .at ≤ n = omega arith in
+    rw (le-leb (a .at + 4) n (omega arith), ← c2 .u16-at .ensures .0, ← c1 .u16-at2 .ensures .0, ← c .length-fits .ensures, room-test n (a .at) _ h)))

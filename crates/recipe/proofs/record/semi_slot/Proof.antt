@@ -1,0 +1,14 @@
+-- What is returned follows from the tests and the calls on the way, in their order. Assumes nothing.
+use borrow.Author.Tests.{eq-eqb, ne-eqb}
+use Rattle.recipe.specs.Record.{semiSlot}
+use Rattle.recipe.proofs.record.semi_slot.Statement.{statement}
+use Rattle.recipe.proofs.record.semi_slot.Tie as tie
+
+pub semi-slot-spec : {M : Type 1} → statement M
+unfolding semiSlot
+semi-slot-spec =
+    tie.close
+    (tie.spec
+    (λ c. rw (eq-eqb _ _ (c .if1 .taken)))
+    (λ c. rw (ne-eqb _ _ (c .before .if1 .left), eq-eqb _ _ (c .if2 .taken)))
+    (λ c. rw (ne-eqb _ _ (c .before .if1 .left), ne-eqb _ _ (c .if2 .left))))

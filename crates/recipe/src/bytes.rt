@@ -1,0 +1,50 @@
+// Little-endian numbers at a place of a slice.
+ghost use mathlib.Core.Path.{_≡_};
+ghost use lib.ListN.{length};
+ghost use Prim.Native.Nat.{_+_, _*_, _≤_, _<_};
+ghost use Rattle.surfaces.specs.Types.{everyFinite};
+ghost use Rattle.recipe.specs.Bytes.{u16At, u64At, numberAt, numbersAt};
+use numbers::from_bits;
+use numbers::is_finite;
+
+pub(crate) fn u16_at(s: &[u8], at: usize) -> usize
+    requires { ⌜ at + 2 ≤ length (now s) ⌝ }
+    ensures { λ r. ⌜ (r ≡ u16At (now (s .entry)) at) × (r < 65536) ⌝ }
+{
+    s[at] as usize + 256 * (s[at + 1] as usize)
+}
+
+fn u64_at(s: &[u8], at: usize) -> u64
+    requires { ⌜ at + 8 ≤ length (now s) ⌝ }
+    ensures { λ r. ⌜ r ≡ u64At (now (s .entry)) at ⌝ }
+{
+    let a = u16_at(s, at) as u64;
+    let b = u16_at(s, at + 2) as u64;
+    let c = u16_at(s, at + 4) as u64;
+    let d = u16_at(s, at + 6) as u64;
+    a + 65536 * (b + 65536 * (c + 65536 * d))
+}
+
+pub(crate) fn number_at(s: &[u8], at: usize) -> f64
+    requires { ⌜ at + 8 ≤ length (now s) ⌝ }
+    ensures { λ r. ⌜ r ≡ numberAt (now (s .entry)) at ⌝ }
+{
+    from_bits(u64_at(s, at))
+}
+
+// Whether the n numbers from a place on are finite.
+pub(crate) fn numbers_finite(s: &[u8], at: usize, n: usize) -> bool
+    requires { ⌜ at + 8 * n ≤ length (now s) ⌝ }
+    ensures { λ r. ⌜ r ≡ everyFinite (numbersAt (now (s .entry)) at n) ⌝ }
+{
+    let mut place = at;
+    let mut left = n;
+    while left > 0 {
+        if !is_finite(number_at(s, place)) {
+            return false;
+        }
+        place += 8;
+        left -= 1;
+    }
+    true
+}

@@ -1,5 +1,5 @@
 -- The surfaces of a good recipe: each one's record stands where the one before ended. Assumes nothing.
-use Prim.Native.Nat.{ℕ, zero, suc, _+_, _≤_, _<_}
+use Prim.Native.Nat.{ℕ, zero, suc, _≤_, _<_}
 use native.Mathlib.Omega.{arith}
 use native.Mathlib.Nat.{not-suc-le-zero}
 use mathlib.Core.Path.{_≡_, refl, sym}
@@ -21,10 +21,10 @@ pub data Chain (b : List ℕ) : ℕ → List Item → Type 0 where
 
 chained : (b : List ℕ) {left at : ℕ} {l : List Item} → at ≤ length b → Scanned b left at (items l) → Chain b at l
 chained b {at = at} h (over k) = stop {at = at} (omega arith)
-chained b h (passes k e s) = link h e (chained b (good-inside b _ e .2) s)
+chained b h (passes k e s) = link h e (chained b (good-inside b _ e .1) s)
 
-pub scan-chain : (b : List ℕ) (left at : ℕ) {l : List Item} → at ≤ length b → scan b left at ≡ items l → Chain b at l
-scan-chain b left at h e = chained b h (rw e at (scanned b left at))
+pub scan-chain : (b : List ℕ) (left at : ℕ) (l : List Item) → at ≤ length b → scan b left at ≡ items l → Chain b at l
+scan-chain b left at l h e = chained b h (rw e at (scanned b left at))
 
 pub place-end : (l : List Item) (end : ℕ) → placeOf l end (length l) ≡ end
 unfolding placeOf

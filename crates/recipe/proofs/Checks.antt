@@ -33,7 +33,7 @@ module _ (b : List ℕ) (at : ℕ) (s : Seen) (e : s ≡ seenOf (recordAt b at))
       by (bad n) q = absurd (bad-number b at q (sym (ap (λ (x : Seen). x .number) (rw q at e)) ∙ h))
       by (good o next) q =
           let p = rw q at e in let i = good-inside b at q in
-          rw p (record { optic = o; reads = q; limit-is = refl; far = i .0; inside = i .2; few = limit-bounds (o .surface .kind) .1 })
+          rw p (record { optic = o; reads = q; limit-is = refl; far = i .0; inside = i .1; few = limit-bounds (o .surface .kind) .1 })
 
   pub seen-bad : s .number ≢ 1 → recordAt b at ≡ bad (s .number)
   unfolding seenOf

@@ -6,3 +6,4 @@ pub mod Scans
 pub mod Chain
 pub mod Notes
 pub mod Checks
+pub mod Length

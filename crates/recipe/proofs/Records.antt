@@ -1,7 +1,7 @@
 -- What a record that is read says of its bytes: a good one its shape, its numbers and its end, a bad one its number. Assumes nothing.
 use Prim.Native.Nat.{ℕ, _+_, _/_, _%_, _≤_, _<_}
 use native.Mathlib.Omega.{arith}
-use mathlib.Core.Path.{_≡_, refl, sym, _∙_}
+use mathlib.Core.Path.{_≡_, refl}
 use mathlib.Core.Logic.{_≢_}
 use mathlib.Core.Bool.{Bool, true, false, not}
 use mathlib.Core.List.{List}
@@ -18,7 +18,7 @@ use Rattle.recipe.specs.declared.record.Optic.{Optic}
 use Rattle.recipe.specs.Bytes.{numbersAt}
 use Rattle.recipe.specs.Record.{Read, bad, good, lengthAt, kindAt, slotAt, shapedAt, semiSlot, opticAt, negativeSemi, recordAt, readAt}
 use Rattle.recipe.proofs.Numbers.{finite-at}
-use Rattle.recipe.proofs.Shapes.{Shape, Fitting, shape}
+use Rattle.recipe.proofs.Shapes.{shape}
 
 record Accepted (b : List ℕ) (at : ℕ) (o : Optic) (next : ℕ) : Type 0 where
   pub shaped : shapedAt b at ≡ true
@@ -56,7 +56,7 @@ module _ (b : List ℕ) (at : ℕ) where
       by true t true u false false w e = record { shaped = t; numbers = u; index = w; optic = cc; end = cc }
 
   module _ {o : Optic} {next : ℕ} (h : recordAt b at ≡ good o next) where
-    pub good-inside : (at + 44 ≤ next) × (next ≤ at + 108) × (next ≤ length b)
+    pub good-inside : (at + 44 ≤ next) × (next ≤ length b) × (next ≤ at + 108)
     good-inside = let a = accepted h in let f = shape b at (a .shaped) refl refl in (omega arith, omega arith, omega arith)
 
     pub good-read : readAt b at ≡ record { number = 1; next = next; optic = o }

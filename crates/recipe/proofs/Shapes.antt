@@ -48,35 +48,27 @@ pub both : (a b : Bool) → (a && b) ≡ true → (a ≡ true) × (b ≡ true)
 both true b h = (refl, h)
 both false b h = absurd (false≢true h)
 
-conic-fits : (kind len : ℕ) → kind ≡ 1 → len ≡ 42 → Fitting kind len
-unfolding semiSlot coefficientCount
-conic-fits kind len k l = rw (k, l) (record { least = lit≤ tt; most = lit≤ tt; numbers = lit≤ tt; semi = lit≤ tt; count = lit≤ tt; terms = lit≤ tt })
+fitting : (kind len : ℕ) → 42 ≤ len → len ≤ 106 → len % 8 ≡ 2 → 10 + 8 * semiSlot kind ≤ len → Fitting kind len
+unfolding coefficientCount
+fitting kind len l m e s =
+    let n = either (λ n. (n ≤ 8) × (42 + 8 * n ≤ len)) (eqb kind 2) (len / 8 - 5) 0 (omega arith, omega arith) (omega arith, l) in
+    record { least = l; most = m; numbers = omega arith; semi = s; count = n .0; terms = n .1 }
 
-even-fits : (kind len : ℕ) → kind ≡ 2 → 42 ≤ len → len ≤ 106 → len % 8 ≡ 2 → Fitting kind len
-unfolding semiSlot coefficientCount
-even-fits kind len k l m n = rw k (record { least = l; most = m; numbers = omega arith; semi = l; count = omega arith; terms = omega arith })
-
-biconic-fits : (kind len : ℕ) → kind ≡ 3 → len ≡ 58 → Fitting kind len
-unfolding semiSlot coefficientCount
-biconic-fits kind len k l = rw (k, l) (record { least = lit≤ tt; most = lit≤ tt; numbers = lit≤ tt; semi = lit≤ tt; count = lit≤ tt; terms = lit≤ tt })
-
-toroid-fits : (kind len : ℕ) → kind ≡ 4 → len ≡ 50 → Fitting kind len
-unfolding semiSlot coefficientCount
-toroid-fits kind len k l = rw (k, l) (record { least = lit≤ tt; most = lit≤ tt; numbers = lit≤ tt; semi = lit≤ tt; count = lit≤ tt; terms = lit≤ tt })
-
-fits : (kind len : ℕ) → lengthFits kind len ≡ true → Fitting kind len
-unfolding lengthFits
+pub fits : (kind len : ℕ) → lengthFits kind len ≡ true → Fitting kind len
+unfolding lengthFits semiSlot
 fits kind len = by (eqb kind 1) refl (eqb kind 2) refl (eqb kind 3) refl
   where
     by : (t : Bool) → eqb kind 1 ≡ t → (u : Bool) → eqb kind 2 ≡ u → (v : Bool) → eqb kind 3 ≡ v
         → (if t then eqb len 42 else if u then leb 42 len && leb len 106 && eqb (len % 8) 2 else if v then eqb len 58 else eqb kind 4 && eqb len 50) ≡ true
         → Fitting kind len
-    by true t u _ v _ h = conic-fits kind len (eqb-true kind 1 t) (eqb-true len 42 h)
+    by true t u _ v _ h = rw (eqb-true kind 1 t, eqb-true len 42 h) (fitting 1 42 (lit≤ tt) (lit≤ tt) refl (lit≤ tt))
     by false _ true u v _ h =
-        let p = both (leb 42 len && leb len 106) _ h in let q = both (leb 42 len) _ (p .0) in
-        even-fits kind len (eqb-true kind 2 u) (leb-true 42 len (q .0)) (leb-true len 106 (q .1)) (eqb-true (len % 8) 2 (p .1))
-    by false _ false _ true v h = biconic-fits kind len (eqb-true kind 3 v) (eqb-true len 58 h)
-    by false _ false _ false _ h = let p = both (eqb kind 4) _ h in toroid-fits kind len (eqb-true kind 4 (p .0)) (eqb-true len 50 (p .1))
+        let p = both (leb 42 len && leb len 106) _ h in let q = both (leb 42 len) _ (p .0) in let l = leb-true 42 len (q .0) in
+        rw (eqb-true kind 2 u) (fitting 2 len l (leb-true len 106 (q .1)) (eqb-true (len % 8) 2 (p .1)) l)
+    by false _ false _ true v h = rw (eqb-true kind 3 v, eqb-true len 58 h) (fitting 3 58 (lit≤ tt) (lit≤ tt) refl (lit≤ tt))
+    by false _ false _ false _ h =
+        let p = both (eqb kind 4) _ h in
+        rw (eqb-true kind 4 (p .0), eqb-true len 50 (p .1)) (fitting 4 50 (lit≤ tt) (lit≤ tt) refl (lit≤ tt))
 
 pub shape : (b : List ℕ) (at : ℕ) {len kind : ℕ} → shapedAt b at ≡ true → len ≡ lengthAt b at → kind ≡ kindAt b at → Shape (length b) at (kind % 256) len
 unfolding shapedAt

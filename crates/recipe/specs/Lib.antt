@@ -1,4 +1,5 @@
 pub mod Bytes
 pub mod Record
 pub mod Scan
+pub mod Length
 pub mod Source

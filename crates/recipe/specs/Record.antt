@@ -5,16 +5,11 @@ use mathlib.Core.Bool.{Bool, not, false, _&&_}
 use lib.ListN.{length, replicate}
 use lib.Dec.{eqb, leb}
 use lib.Ieee.{Float}
-use lib.Ieee.Scale.{finite}
 use Rattle.numbers.specs.Arithmetic.{_<₆₄_, _≤₆₄_, if_then_else_, 0f}
 use Rattle.surfaces.specs.Types.{everyFinite, noCoefficients}
-use Rattle.surfaces.specs.Surface.{limitOf}
-use Rattle.surfaces.specs.declared.types.Vec3.{Vec3}
-use Rattle.surfaces.specs.declared.types.Ray.{Ray}
 use Rattle.surfaces.specs.declared.types.Coefficients.{Coefficients}
 use Rattle.surfaces.specs.declared.surface.Kind.{Kind}
 use Rattle.surfaces.specs.declared.surface.Kind.the-variants.{Conic, Even, Biconic, Toroid}
-use Rattle.surfaces.specs.declared.surface.Surface.{Surface}
 use Rattle.recipe.specs.declared.record.Optic.{Optic}
 use Rattle.recipe.specs.declared.record.Record.{Record}
 use Rattle.recipe.specs.Bytes.{u16At, numberAt, numbersAt}
@@ -100,7 +95,7 @@ recordAt b at =
     if slotAt b at 1 ≤₆₄ 0f then bad 4 else
     good (opticAt b at) (at + 2 + lengthAt b at)
 
--- what a reader hands out of a record that has a shape
+-- what a reader hands out where there is no shape
 abbrev pub noOptic : Optic
 noOptic = record { surface = record { vertex = 0f; semi = 0f; kind = Conic 0f 0f; coefficients = noCoefficients }; mirror = false; index = 0f }
 

@@ -7,7 +7,6 @@ use lib.Dec.{eqb, leb}
 use Rattle.numbers.specs.Arithmetic.{if_then_else_, 0f}
 use Rattle.surfaces.specs.Types.{vec, zeros}
 use Rattle.surfaces.specs.declared.types.Vec3.{Vec3}
-use Rattle.surfaces.specs.declared.types.Ray.{Ray}
 use Rattle.recipe.specs.declared.source.Source.{Source}
 use Rattle.recipe.specs.Record.{lengthAt, kindAt, slotAt}
 

@@ -6,7 +6,6 @@ use native.Mathlib.Omega.{arith}
 use borrow.Author.Needs.{needs}
 use lib.Ieee.{Float, ofBits}
 use Rattle.numbers.specs.Arithmetic.{decimal}
-use Rattle.surfaces.specs.declared.types.Coefficients.{Coefficients}
 use Rattle.recipe.specs.Bytes.{numbersAt}
 use Rattle.recipe.specs.Record.{coefficientsAt}
 use Rattle.recipe.proofs.Numbers.{term-more}

@@ -1,6 +1,5 @@
 -- What is returned follows from the tests and the calls on the way, in their order. Assumes nothing.
 use native.Mathlib.Omega.{arith}
-use borrow.Author.Needs.{needs}
 use borrow.Author.Tests.{eq-eqb, ne-eqb}
 use Rattle.recipe.specs.Record.{kindOf}
 use Rattle.recipe.proofs.Shapes.{semi-least, semi-biconic}

@@ -5,19 +5,13 @@
 
 mod operands;
 
-use std::io::{self, Read, Write};
-
-use conic::{ConicSurface, conic_normal, conic_sag, intersect_conic};
-use error::OpticsError;
 use operands::Operands;
-use snell::{reflect, snell_refract};
-use surface::asphere::{EvenAsphere, OddAsphere};
-use surface::biconic::{BiconicSurface, ToroidalSurface};
-use types::{Ray, Vec3};
-
-include!(concat!(env!("OUT_DIR"), "/text.rs"));
-
-const _: () = assert!(!cfg!(debug_assertions), "the release build decides");
+use oracle::conic::{ConicSurface, conic_normal, conic_sag, intersect_conic};
+use oracle::error::OpticsError;
+use oracle::snell::{reflect, snell_refract};
+use oracle::surface::asphere::{EvenAsphere, OddAsphere};
+use oracle::surface::biconic::{BiconicSurface, ToroidalSurface};
+use oracle::types::{Ray, Vec3};
 
 type Answer = Result<Vec<f64>, OpticsError>;
 
@@ -147,36 +141,12 @@ fn answer(line: &[u8]) -> Option<Answer> {
     Some(answer)
 }
 
-/// Document 01's number, and the values that are told with it.
-fn number_and_values(answer: Answer) -> (u8, Vec<f64>) {
-    match answer {
-        Ok(values) => (1, values),
-        Err(OpticsError::InvalidParameter(_)) => (2, vec![]),
-        Err(OpticsError::InvalidSurface(_)) => (3, vec![]),
-        Err(OpticsError::NumericalSingularity(_)) => (4, vec![]),
-        Err(OpticsError::GeometryOutsideAperture) => (5, vec![]),
-        Err(OpticsError::RayMissedSurface(_)) => (6, vec![]),
-        Err(OpticsError::RayVignetted { r, max_r, .. }) => (7, vec![r, max_r]),
-        Err(OpticsError::TotalInternalReflection) => (8, vec![]),
-        Err(other) => panic!("{other:?} has no number in document 01"),
-    }
-}
-
 fn written(answer: Option<Answer>) -> String {
     let Some(answer) = answer else { return "?\n".to_string() };
-    let (number, values) = number_and_values(answer);
-    let bits = |x: f64| if x.is_nan() { 0x7FF8_0000_0000_0000 } else { x.to_bits() };
-    let words: String = values.into_iter().map(|x| format!(" {:016X}", bits(x))).collect();
-    format!("{number}{words}\n")
+    let (number, values) = answer.map_or_else(oracle::told, |values| (1, values));
+    format!("{number}{}\n", oracle::written(&values))
 }
 
-fn main() -> io::Result<()> {
-    let mut questions = Vec::new();
-    io::stdin().read_to_end(&mut questions)?;
-    let mut out = io::BufWriter::new(io::stdout().lock());
-    for line in questions.split_inclusive(|&byte| byte == b'\n') {
-        let line = line.strip_suffix(b"\n").unwrap_or(line);
-        out.write_all(written(answer(line)).as_bytes())?;
-    }
-    out.flush()
+fn main() -> std::io::Result<()> {
+    oracle::answer_lines(|line| written(answer(line)))
 }

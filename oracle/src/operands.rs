@@ -1,11 +1,11 @@
 //! Reads a question's words. Every reader answers None where the line cannot be read.
 
-use crate::conic::ConicSurface;
-use crate::surface::asphere::{EvenAsphere, OddAsphere};
-use crate::surface::biconic::{BiconicSurface, ToroidalSurface};
-use crate::types::{Ray, Vec3};
+use oracle::conic::ConicSurface;
+use oracle::surface::asphere::{EvenAsphere, OddAsphere};
+use oracle::surface::biconic::{BiconicSurface, ToroidalSurface};
+use oracle::types::{Ray, Vec3};
+use oracle::{digits, number, words};
 
-const LONGEST_LINE: usize = 131_200;
 const MOST_OPERANDS: usize = 64;
 
 /// The operands that are left to read.
@@ -14,11 +14,9 @@ pub struct Operands<'a>(std::vec::IntoIter<&'a str>);
 impl<'a> Operands<'a> {
     /// The operation's name, and its operands.
     pub fn of_line(line: &'a [u8]) -> Option<(&'a str, Self)> {
-        let line = std::str::from_utf8(line).ok()?;
-        let mut words = line.split(' ').filter(|word| !word.is_empty());
+        let mut words = words(line)?.into_iter();
         let operation = words.next()?;
-        let operands: Vec<&str> = words.collect();
-        (line.len() <= LONGEST_LINE && operands.len() <= MOST_OPERANDS).then(|| (operation, Self(operands.into_iter())))
+        (words.len() <= MOST_OPERANDS).then_some((operation, Self(words)))
     }
 
     pub fn end(&mut self) -> Option<()> {
@@ -91,15 +89,4 @@ impl<'a> Operands<'a> {
     fn rest(&mut self) -> Option<Vec<f64>> {
         self.0.by_ref().map(number).collect()
     }
-}
-
-fn number(word: &str) -> Option<f64> {
-    (word.len() == 16).then_some(())?;
-    let x = f64::from_bits(digits(word, 16)?);
-    Some(if x.is_nan() { f64::NAN } else { x })
-}
-
-/// Digits alone: `from_str_radix` would take a sign too.
-fn digits(word: &str, radix: u32) -> Option<u64> {
-    word.chars().all(|c| c.is_digit(radix)).then(|| u64::from_str_radix(word, radix).ok())?
 }

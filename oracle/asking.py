@@ -14,21 +14,26 @@ HERE = Path(__file__).resolve().parent
 TARGET = HERE.parent / "target" / "oracle"
 
 
-def built_oracle():
-    """The oracle's command."""
+def built_oracle(program="oracle"):
+    """The command of a program over the Rust text."""
     if "OPTICS_CORE" not in os.environ:
         sys.exit("OPTICS_CORE has to name the folder with the Rust text's types.rs")
     build = ["cargo", "build", "--release", "--offline", "--locked", "--quiet", "--target-dir", TARGET]
     subprocess.run(build, cwd=HERE, check=True)
-    return [TARGET / "release" / "oracle"]
+    return [TARGET / "release" / program]
+
+
+def written_by(command, lines):
+    """All that a program writes on these lines."""
+    questions = TARGET / "questions"
+    questions.write_text("\n".join(lines))
+    with questions.open() as stdin:
+        return subprocess.run(command, stdin=stdin, stdout=subprocess.PIPE, check=True).stdout.decode().splitlines()
 
 
 def ask(command, lines):
     """The answers, one for each line."""
-    questions = TARGET / "questions"
-    questions.write_text("\n".join(lines))
-    with questions.open() as stdin:
-        answers = subprocess.run(command, stdin=stdin, stdout=subprocess.PIPE, check=True).stdout.decode().splitlines()
+    answers = written_by(command, lines)
     if len(answers) != len(lines):
         sys.exit(f"{command[0]} answers {len(answers)} of {len(lines)} lines")
     return answers

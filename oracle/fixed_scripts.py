@@ -1,0 +1,429 @@
+"""Scripts with the replies that document 01 gives them, and lines that cannot be read.
+
+A step is a line and what its reply has to tell: number and place, and then, if written, all steps and the outcome; or the whole
+reply as lines. None stands beside a line without a reply, "?" beside one that cannot be read."""
+import struct
+
+from floats import LARGEST, SMALLEST, word
+from recipes import DOUBLET, LIMITS, MIRRORS, PHONE, RELAY, TORIC, bytes_of, places, recipe, record
+from scripts import MOST, WIDTH, continue_line, recipe_line, room_line, start_line, state_line, words
+
+INFINITY = float("inf")
+NAN = float("nan")
+UP = [0.0, 0.0, 1.0]
+DOWN = [0.0, 0.0, -1.0]
+AXIS = [0.0, 0.0, -5.0, *UP]
+PLANE = ("conic", 0.0, 2.0, [0.0, 0.0, 10.0])
+
+
+def given(surfaces, room=None):
+    """The recipe, and as much room as it needs or another."""
+    room = WIDTH * len(surfaces) if room is None else room
+    return [(recipe_line(recipe(surfaces)), None), (room_line(room), None)]
+
+
+def traced(surfaces, ray, end, index=1.0, cuts=()):
+    """Accepted, and in parts or at once brought to its end: all steps and the outcome."""
+    begun = [*given(surfaces), (start_line(ray, index), "1 0 0 0")]
+    return [*begun, *((continue_line(n), f"1 0 {told}") for n, told in cuts), (continue_line(), f"1 0 {end}")]
+
+
+def bump(semi):
+    return [("even", 0.0, 1.0, [0.0, 0.0, semi, 1 / 8])]
+
+
+EXAMPLE = [
+    *given([PLANE]),
+    (start_line(AXIS), ["start 1 0", state_line(0, 0, 0, 0.0, AXIS, 1.0, 0.0, 0, 0)]),
+    (
+        continue_line(1),
+        [
+            "continue 1 0",
+            state_line(1, 44, 0, 0.0, [0.0, 0.0, 0.0, *UP], 2.0, 5.0, 1, 1),
+            f"record 0 {words([1.0, 5.0, 0.0, 0.0, 0.0, *DOWN, *UP, 1.0, 1.0])}",
+        ],
+    ),
+]
+
+# Newton's start keeps -0.0, and the path does not; a plane's maximum with 0 is +0.0, and so is the point then.
+SIGNS = [
+    *given([("even", 0.0, 1.0, [0.0, 0.0, 1.0])]),
+    (start_line([0.0, 0.0, 0.0, *DOWN]), "1 0 0 0"),
+    (
+        continue_line(1),
+        [
+            "continue 1 0",
+            state_line(1, 44, 0, 0.0, [0.0, 0.0, 0.0, *DOWN], 1.0, 0.0, 1, 1),
+            f"record 0 {words([1.0, -0.0, 0.0, 0.0, 0.0, *DOWN, *DOWN, 0.0, 1.0])}",
+        ],
+    ),
+    *given([("conic", 0.0, 1.0, [0.0, 0.0, 1.0])]),
+    (start_line([-0.0, 0.0, 0.0, *UP]), "1 0 0 0"),
+    (
+        continue_line(1),
+        [
+            "continue 1 0",
+            state_line(1, 44, 0, 0.0, [0.0, 0.0, 0.0, *UP], 1.0, 0.0, 1, 1),
+            f"record 0 {words([1.0, 0.0, 0.0, 0.0, 0.0, *DOWN, *UP, 1.0, 1.0])}",
+        ],
+    ),
+]
+
+GLASS = ("conic", 0.0, 1.5, [0.0, 0.0, 10.0])
+FAR = ("conic", 1e308, 1.0, [0.0, 0.0, 10.0])
+TRACES = [
+    # document 01's edges
+    traced(bump(5.0), [4.0, 0.0, -1.0, *UP], "2 1", cuts=[(0, "0 0"), (1, "1 0")]),
+    traced(bump(3.0), [4.0, 0.0, -1.0, *UP], "2 7", cuts=[(1, "1 0"), (1, "2 7"), (1, "2 7")]),
+    traced(bump(2.0), [4.0, 0.0, -1.0, *UP], "1 6", cuts=[(1, "1 6")]),
+    traced([PLANE], [0.0, 0.0, 2.0**-24, *UP], "1 1"),
+    traced([PLANE], [0.0, 0.0, 2.0**-23, *UP], "1 6"),
+    traced([("conic", 0.0, 1.0, [1 / 8, 0.0, 10.0])], [0.0, 0.0, -2.0, *UP], "1 1"),
+    # ports that look right: the other sheet's root, and the even asphere's second exit beside the biconic's
+    traced([("conic", 0.0, 1.0, [1.0, -2.0, 10.0])], AXIS, "1 1"),
+    traced([("even", 0.0, 1.0, [0.0, 0.0, 0.5])], [0.0, 0.0, 2.0**-30, 2.0**50, 0.0, 2.0**20], "1 1"),
+    traced([("biconic", 0.0, 1.0, [0.0, 0.0, 0.0, 0.0, 0.5])], [0.0, 0.0, 2.0**-30, 2.0**50, 0.0, 2.0**20], "1 7"),
+    # numbers that are not finite run on inside: 4 from a normal, 2 from an infinite r, and all passes of a toroid
+    traced([("biconic", 0.0, 1.0, [1e308, -1.0, 0.0, 0.0, 9.0])], [1.0, 0.0, 5e307, *UP], "1 4"),
+    traced([("biconic", 0.0, 1.0, [1e308, -1.0, 0.0, 0.0, 9.0], True)], [1.0, 0.0, 5e307, *UP], "1 4"),
+    traced([("even", 0.0, 1.0, [0.0, 0.0, 10.0])], [0.0, 0.0, 1e-10, 1e200, 0.0, 1e3], "1 2"),
+    traced([("toroid", 1e308, 1.0, [5.0, 0.0, 0.0, 10.0])], [0.0, 0.0, -1e308, *UP], "35 6", cuts=[(34, "34 0"), (1, "35 6")]),
+    traced([("even", 1e308, 1.0, [0.0, 0.0, 10.0])], [0.0, 0.0, -1e308, *UP], "1 6"),
+    traced([("biconic", 1e308, 1.0, [0.0, 0.0, 0.0, 0.0, 10.0])], [0.0, 0.0, -1e308, *UP], "1 6"),
+    # 4 of the slope, 5 of the normal, 6 and 7 at the second surface, 7 with an infinite r, 8, which a mirror has not
+    traced([("even", 0.0, 1.0, [0.0, 0.0, 10.0, 1 / 8])], [4.0, 0.0, 3.0, 1.0, 0.0, 1.0], "1 4"),
+    traced([("conic", 0.0, 1.0, [0.25, 0.0, 100.0])], [-4.0, -8.0, 4.0, 1.0, 2.0, 0.0], "1 5"),
+    traced([("toroid", 0.0, 1.0, [0.0, 0.0, 0.0, 10.0])], AXIS, "1 5"),
+    traced([PLANE, ("conic", -1.0, 1.0, [0.0, 0.0, 10.0])], AXIS, "2 6", cuts=[(1, "1 0")]),
+    traced([PLANE, ("conic", 1.0, 1.0, [0.0, 0.0, 1.0])], [2.0, 0.0, -5.0, *UP], "2 7"),
+    traced([("conic", 0.0, 1.0, [0.0, 0.0, 10.0])], [0.0, 0.0, -1.0, 1e200, 0.0, 1.0], "1 7"),
+    traced([("conic", 0.0, 1.0, [0.0, 0.0, 10.0])], [0.0, 0.0, -1.0, 0.8, 0.0, 0.6], "1 8", index=2.0),
+    traced([("conic", 0.0, 1.0, [0.0, 0.0, 10.0], True)], [0.0, 0.0, -1.0, 0.8, 0.0, 0.6], "1 1", index=2.0),
+    # 9: t and point; the path alone; the direction alone
+    traced([FAR], [0.0, 0.0, -1e308, *UP], "1 9"),
+    traced([(*FAR, True), ("conic", -7e307, 1.0, [0.0, 0.0, 10.0])], [0.0, 0.0, 0.0, *UP], "2 9"),
+    traced([("conic", 0.0, 2.0**-600, [0.0, 0.0, 10.0])], AXIS, "1 9", index=2.0**600),
+    traced([("conic", 0.0, 2.0**-600, [0.0, 0.0, 10.0], True)], AXIS, "1 1", index=2.0**600),
+    # a direction of any length runs on; k exactly 0 passes, and leaves along the plane
+    traced([PLANE, ("conic", 1.0, 1.0, [0.0, 0.0, 10.0])], [0.0, 0.0, -5.0, 0.0, 0.0, 1e3], "2 1"),
+    traced([("conic", 0.0, 1.0, [0.0, 0.0, 10.0])], [0.0, 0.0, -5.0, 0.0, 0.0, 1e200], "1 1"),
+    # a mirror turns the beam back to a surface that it has passed, and keeps the index
+    traced([GLASS, ("conic", 5.0, 3.0, [0.0, 0.0, 10.0], True), ("conic", 0.0, 1.0, [0.0, 0.0, 10.0])], [0.0, 0.0, -5.0, 0.0, 0.6, 0.8], "3 1"),
+]
+
+# Bytes instead of a recipe, and what start and continue answer: number and place.
+AFTER = len(record(*PLANE))
+EVEN = ("even", 1.0, 1.0, [0.0, 0.0, 10.0, 0.0])
+BICONIC = ("biconic", 1.0, 1.0, [0.0, 0.0, 0.0, 0.0, 10.0])
+TOROID = ("toroid", 1.0, 1.0, [5.0, 0.0, 0.0, 10.0])
+EACH_KIND = [PLANE, (*EVEN, True), BICONIC, (*TOROID, True)]
+OTHER_MIRRORS = [(*PLANE, True), EVEN, (*BICONIC, True), TOROID]
+
+
+def behind(data):
+    """At the second record."""
+    return record(*PLANE) + data
+
+
+def with_length(data, length):
+    return struct.pack("<H", length) + data[2:]
+
+
+def with_kind(data, kind):
+    return data[:2] + struct.pack("<H", kind) + data[4:]
+
+
+def spoilt(surface, **changes):
+    """A surface with another vertex, index or number, the last counted from the end of its own."""
+    kind, vertex, index, numbers, *mirror = surface
+    numbers = list(numbers)
+    if "own" in changes:
+        numbers[changes["own"][0]] = changes["own"][1]
+    return record(kind, changes.get("vertex", vertex), changes.get("index", index), numbers, *mirror)
+
+
+def semi_place(surface):
+    return {"conic": 2, "even": 2, "biconic": 4, "toroid": 3}[surface[0]]
+
+
+DAMAGED = [
+    *((behind(record(*PLANE)[:n]), 10, AFTER) for n in (1, 3, 4, 11, 43)),
+    (record(*PLANE)[:-1], 10, 0),
+    *((behind(with_kind(record(*PLANE), kind)), 10, AFTER) for kind in (0, 3, 5, 6, 256, 261, 513)),
+    (behind(with_kind(record(*TOROID), 257)), 10, AFTER),
+    *((behind(with_length(record(*PLANE), length)), 10, AFTER) for length in (0, 2, 34, 43, 50, 65535)),
+    *((behind(bytes_of(2, [1.0] * count)), 10, AFTER) for count in (4, 14)),
+    (behind(bytes_of(259, [1.0] * 8)), 10, AFTER),
+    (bytes_of(0, [*AXIS, 1.0]) + record(*PLANE), 10, 0),
+    # what each number may be, in records of each kind
+    *((behind(spoilt(s, vertex=NAN)), 2, AFTER) for s in EACH_KIND[:2]),
+    *((behind(spoilt(s, index=INFINITY)), 2, AFTER) for s in EACH_KIND[2:]),
+    *((behind(spoilt(s, own=(0, -INFINITY))), 2, AFTER) for s in EACH_KIND[1:3]),
+    *((behind(spoilt(s, own=(-1, NAN))), 2, AFTER) for s in EACH_KIND),
+    *((behind(spoilt(s, own=(semi_place(s), -SMALLEST))), 3 if s[0] == "conic" else 2, AFTER) for s in (*EACH_KIND, *OTHER_MIRRORS)),
+    *((behind(spoilt(s, index=0.0)), 4, AFTER) for s in EACH_KIND),
+    (behind(spoilt(PLANE, index=-0.0)), 4, AFTER),
+    (behind(spoilt(TOROID, index=-1.5)), 4, AFTER),
+    # the order within a record, and record by record
+    (behind(spoilt(PLANE, index=NAN, own=(2, -1.0))), 2, AFTER),
+    (behind(spoilt(PLANE, index=0.0, own=(2, -1.0))), 3, AFTER),
+    (behind(spoilt(EVEN, index=0.0, own=(2, -1.0))), 2, AFTER),
+    (with_length(spoilt(PLANE, index=NAN), 43), 10, 0),
+    (spoilt(PLANE, index=0.0) + spoilt(PLANE, vertex=NAN), 4, 0),
+    (spoilt(PLANE, own=(2, -1.0)) + b"\0", 3, 0),
+    (spoilt(PLANE, vertex=NAN) + b"\0", 2, 0),
+]
+
+
+def damaged():
+    """Refused by continue, which stays where it was, and some by start, before the ray and the room are looked at."""
+    good = [PLANE, ("conic", 1.0, 1.0, [0.0, 0.0, 10.0])]
+    tried = [*given(good), (start_line(AXIS), "1 0 0 0")]
+    for data, number, place in DAMAGED:
+        tried += [(recipe_line(data), None), (continue_line(1), f"{number} {place} 0 0")]
+    yield [*tried, (recipe_line(recipe(good)), None), (continue_line(1), "1 0 1 0")]
+    tried = [(room_line(0), None)]
+    for data, number, place in DAMAGED[::4]:
+        tried += [(recipe_line(data), None), (start_line([NAN] * 6), f"{number} {place} 0 {number}")]
+    yield tried
+    # a semi-diameter and a count at their limits are taken
+    yield traced([("conic", 0.0, SMALLEST, [0.0, 0.0, -0.0])], AXIS, "1 9")
+    yield traced([("even", 0.0, 1.0, [0.0, 0.0, 0.0, *[1.0] * 8], True)], AXIS, "1 1")
+
+
+def bad_rays():
+    """Told after the recipe and before the room."""
+    tried = given([PLANE], 12)
+    for place in range(7):
+        for x in (NAN, INFINITY) if place % 3 else (-INFINITY,):
+            numbers = [*AXIS, 1.0]
+            numbers[place] = x
+            tried += [(start_line(numbers[:6], numbers[6]), "2 0 0 2")]
+    for index in (0.0, -0.0, -1.0, -SMALLEST):
+        tried += [(start_line(AXIS, index), "4 0 0 4")]
+    yield [*tried, (start_line([*AXIS[:5], NAN], -1.0), "2 0 0 2")]
+    yield [*given([], 3), (start_line(AXIS, 0.0), "4 0 0 4"), (continue_line(), "12 0 0 4")]
+    yield [*given([PLANE]), (start_line(AXIS, LARGEST), "1 0 0 0"), (start_line([0.0] * 6, SMALLEST), "1 0 0 0"), (continue_line(), "1 0 1 6")]
+
+
+def rooms():
+    two = [PLANE, ("conic", 1.0, 1.0, [0.0, 0.0, 10.0])]
+    on = [(continue_line(1), "1 0 1 0"), (continue_line(), "1 0 2 1")]
+    for room in (26, 27, 40):
+        yield [*given(two, room), (start_line(AXIS), "1 0 0 0"), *on]
+    for room in (0, 13, 25):
+        yield [*given(two, room), (start_line(AXIS), "11 0 0 11"), (continue_line(), "11 0 0 11")]
+    # start blanks all of it, refused or not; a refused continuation leaves it
+    yield [*given(two, 30), (start_line([*AXIS[:5], NAN]), "2 0 0 2")]
+    yield [*given(two, 15), (continue_line(3), "11 0 0 2"), (recipe_line(recipe([PLANE])), None), (continue_line(3), "12 0 0 2")]
+    # records that were written before the room was new are not written again, and 11 comes before 12
+    yield [*given(two), (start_line(AXIS), "1 0 0 0"), on[0], (room_line(29), None), on[1], (room_line(25), None), (continue_line(), "11 0 2 1")]
+    yield [*given([]), (room_line(0), None), (start_line(AXIS), "1 0 0 1"), (continue_line(), "1 0 0 1"), (room_line(2), None), (continue_line(0), "1 0 0 1")]
+
+
+STAND = [PLANE, ("even", 10.0, 1.5, [0.01, 0.0, 10.0, 1e-3]), ("toroid", 20.0, 1.0, [50.0, 0.01, 0.0, 10.0])]
+PLACES = places(STAND)
+LIMIT = sum(LIMITS[surface[0]] for surface in STAND)
+ON_EVEN = dict(number=1, place=PLACES[1], passes=0, t=0.0, ray=[0.5, 0.0, 1.0, *UP], index=2.0, path=7.0, steps=5, outcome=0)
+ON_TOROID = ON_EVEN | dict(number=2, place=PLACES[2])
+ON_PLANE = ON_EVEN | dict(number=0, place=0, ray=AXIS)
+DONE = ON_EVEN | dict(number=3, place=PLACES[3], outcome=1)
+
+# A state, and a change of it for which document 01 gives 12.
+FORGED_WRONG = [
+    *((ON_EVEN, dict(outcome=n)) for n in (1, 3, 10, 12, 255)),
+    *((DONE, dict(number=n)) for n in (2, 4, 2**32 + 3)),
+    *((DONE, dict(place=n)) for n in (0, PLACES[2], PLACES[3] + 1, 2**32 + PLACES[3])),
+    *((DONE, dict(outcome=n)) for n in (0, 2, 9)),
+    *((ON_EVEN, dict(number=n)) for n in (0, 2, 3, 2**32 + 1, 2**64 - 1)),
+    *((ON_EVEN, dict(place=n)) for n in (0, PLACES[1] + 1, PLACES[2], 2**16 + PLACES[1], 2**32 + PLACES[1])),
+    (ON_EVEN, dict(number=2, place=PLACES[3])),
+    (ON_PLANE, dict(passes=1)),
+    *((ON_EVEN, dict(passes=n)) for n in (25, 34, 256, 65535)),
+    *((ON_TOROID, dict(passes=n)) for n in (35, 36)),
+    *((ON_EVEN, dict(outcome=n, passes=1)) for n in (2, 6, 9)),
+    (DONE, dict(passes=1)),
+    *((ON_EVEN, dict(steps=n)) for n in (LIMIT + 1, 2**32 + 5, 2**64 - 1)),
+    (DONE, dict(steps=LIMIT + 1)),
+    *((ON_EVEN, dict(ray=[*ON_EVEN["ray"][:i], x, *ON_EVEN["ray"][i + 1 :]])) for i, x in enumerate([NAN, INFINITY, -INFINITY] * 2)),
+    *((DONE, dict(ray=[*AXIS[:i], NAN, *AXIS[i + 1 :]])) for i in (0, 5)),
+    *((ON_EVEN, dict(path=x)) for x in (NAN, INFINITY, -INFINITY)),
+    *((ON_EVEN, dict(index=x)) for x in (0.0, -0.0, -1.0, NAN, INFINITY)),
+    *((DONE, dict(path=NAN)), (DONE, dict(index=0.0))),
+]
+
+# A state, a change of it that is accepted, the steps allowed, and then all steps and the outcome. No surface ends by these,
+FORGED_ON = [
+    *((ON_EVEN, dict(outcome=n), 9, f"5 {n}") for n in (2, 4, 5, 6, 7, 8, 9)),
+    (ON_EVEN, dict(outcome=6, t=NAN), 1, "5 6"),
+    (DONE, dict(t=-INFINITY, path=-1.0, index=SMALLEST, steps=LIMIT), 9, f"{LIMIT} 1"),
+    # t so far is not used at pass count 0, and is kept while no step is taken; later it is used as it is
+    *((ON_EVEN, dict(t=t), n, end) for t in (NAN, 1e300) for n, end in ((0, "5 0"), (1, "6 0"))),
+    *((ON_EVEN, dict(passes=1, t=t), 0, "5 0") for t in (NAN, -0.0)),
+    (ON_EVEN, dict(passes=1, t=-3.0), 1, "6 0"),
+    (ON_EVEN, dict(passes=23, t=-3.0), 1, "6 0"),
+    (ON_EVEN, dict(passes=1, t=0.0, ray=[0.5, 0.0, 1.0, 1.0, 0.0, 0.0]), 1, "6 0"),
+    *((ON_TOROID, dict(passes=1, t=t), 33, "38 0") for t in (NAN, INFINITY)),
+    (ON_TOROID, dict(steps=LIMIT), 1, f"{LIMIT + 1} 0"),
+]
+# and by these some do.
+FORGED_ENDED = [
+    (ON_PLANE, dict(t=NAN), 1, "6 0"),
+    (ON_EVEN, dict(t=NAN), 60, "9 1"),
+    (ON_EVEN, dict(passes=1, t=NAN), 1, "6 6"),
+    (ON_EVEN, dict(passes=24, t=-3.0), 60, "6 6"),
+    (ON_EVEN, dict(passes=0, t=0.0, ray=[0.5, 0.0, 1.0, 1.0, 0.0, 0.0]), 1, "6 6"),
+    *((ON_TOROID, dict(passes=34, t=t), 60, "6 6") for t in (NAN, 12.0)),
+    (ON_TOROID, dict(passes=20, t=12.0, path=-7.0), 60, "7 1"),
+    (ON_TOROID, dict(steps=LIMIT), 60, f"{LIMIT + 2} 1"),
+    (ON_PLANE, dict(path=LARGEST, ray=[0.0, 0.0, -1e300, *UP]), 60, "6 9"),
+    (ON_EVEN, dict(index=SMALLEST), 60, "9 1"),
+    (ON_EVEN, dict(index=LARGEST), 60, "7 8"),
+]
+
+
+def forged():
+    began = (start_line(AXIS), "1 0 0 0")
+    tried = [*given(STAND), began]
+    for state in (state | change for state, change in FORGED_WRONG):
+        tried += [(state_line(**state), None), (continue_line(1), f"12 0 {state['steps']} {state['outcome']}")]
+    for state, change, steps, end in FORGED_ON:
+        tried += [(state_line(**state | change), None), (continue_line(steps), f"1 0 {end}")]
+    tried += [(continue_line(1), f"12 0 {LIMIT + 1} 0")]
+    for state, change, steps, end in FORGED_ENDED:
+        tried += [began, (state_line(**state | change), None), (continue_line(steps), f"1 0 {end}")]
+    yield tried
+    # an empty recipe
+    tried = given([])
+    for outcome in (*range(13), 255):
+        end = f"0 {outcome}"
+        accepted = f"1 0 {end}" if outcome == 1 else f"12 0 {end}"
+        tried += [(state_line(**ON_PLANE | dict(outcome=outcome, steps=0)), None), (continue_line(), accepted)]
+    tried += [(state_line(**ON_PLANE | dict(outcome=1, steps=1)), None), (continue_line(), "12 0 1 1")]
+    yield [*tried, (state_line(**ON_PLANE | dict(outcome=1, steps=0, place=1)), None), (continue_line(), "12 0 0 1")]
+    # a refused start's state does not fit; the recipe and the room are told before
+    refused = [*given([PLANE]), (start_line(AXIS, -1.0), "4 0 0 4"), (continue_line(), "12 0 0 4")]
+    yield [*refused, (recipe_line(recipe([PLANE, PLANE])), None), (continue_line(), "11 0 0 4"), (recipe_line(b"\0"), None), (continue_line(), "10 0 0 4")]
+    # a state goes on in another recipe, if its place is there
+    begun = [*given(STAND), (start_line([0.5, 0.0, -5.0, *UP]), "1 0 0 0"), (continue_line(1), "1 0 1 0")]
+    shorter = [(recipe_line(recipe(STAND[:2])), None), (continue_line(1), "1 0 2 0")]
+    longer = (recipe_line(recipe(STAND)), None)
+    yield [*begun, *shorter, (continue_line(), "1 0 3 1"), longer, (continue_line(), "12 0 3 1")]
+    yield [*begun, *shorter, longer, (continue_line(1), "1 0 3 0"), (continue_line(), "1 0 5 1")]
+
+
+def longest():
+    """512 records, near whose end a trace is taken up; and a byte behind them."""
+    at = places(RELAY)
+    near = state_line(509, at[509], 0, 0.0, [1.0, 2.0, 2.0 * 509 - 1, *UP], 1.5, 1000.0, 509, 0)
+    begun = [(recipe_line(recipe(RELAY)), None), (room_line(6655), None), (start_line(AXIS), "11 0 0 11"), (room_line(6656), None)]
+    taken_up = [(near, None), (continue_line(2), "1 0 511 0"), (continue_line(0), "1 0 511 0"), (continue_line(), "1 0 512 1")]
+    behind_it = [(recipe_line(recipe(RELAY) + b"\0"), None), (continue_line(1), f"10 {at[512]} 512 1")]
+    return [*begun, (start_line([1.0, 2.0, -5.0, *UP]), "1 0 0 0"), *taken_up, *behind_it]
+
+
+FOUR = word(4.0)
+STATE = state_line(0, 0, 0, 0.0, AXIS, 1.0, 0.0, 0, 0)
+UNREADABLE = [
+    "",
+    " ",
+    "?",
+    "recipes",
+    "Recipe 00",
+    "recipe 0",
+    "recipe 000",
+    "recipe 0G",
+    "recipe 0x00",
+    "recipe +1",
+    "recipe 00 00",
+    "recipe\t00",
+    "room",
+    "room -1",
+    "room +1",
+    "room 1.0",
+    "room A",
+    "room 1 1",
+    "room 8193",
+    "room 65536",
+    "room 18446744073709551617",
+    "start",
+    f"start {' '.join([FOUR] * 6)}",
+    f"start {' '.join([FOUR] * 8)}",
+    f"start {' '.join([FOUR] * 6)} {FOUR[1:]}",
+    f"start {' '.join([FOUR] * 6)} 0{FOUR}",
+    f"start {' '.join([FOUR] * 6)} {FOUR[:-1]}G",
+    f"start {' '.join([FOUR] * 6)} 1",
+    f"start{' '.join([FOUR] * 7)}",
+    "state",
+    STATE.rsplit(" ", 1)[0],
+    f"{STATE} 0",
+    STATE.replace("state 0", "state 18446744073709551616"),
+    STATE.replace("state 0 0", "state 0 18446744073709551616"),
+    STATE.replace("state 0 0 0", "state 0 0 65536"),
+    STATE.replace("state 0 0 0", "state 0 -1 0"),
+    STATE.replace("state 0 0 0", "state A 0 0"),
+    f"{STATE.rsplit(' ', 2)[0]} 18446744073709551616 0",
+    f"{STATE.rsplit(' ', 1)[0]} 256",
+    f"state 0 0 0 0 {' '.join([FOUR] * 8)} 0 0",
+    f"state 0 0 {' '.join([FOUR] * 10)} 0 0",
+    "continue",
+    "continue 1 1",
+    "continue 65536",
+    "continue 4294967297",
+    "continue 18446744073709551617",
+    "continue 99999999999999999999999999",
+    "continue -1",
+    "continue 1.",
+    "continue F",
+    "continue 1\r",
+    "Continue 1",
+    "start continue 1",
+]
+
+
+def unreadable():
+    """Nothing happens to the station meanwhile; and lines that are written otherwise and can be read."""
+    begun = [*given([PLANE, PLANE], 27), (start_line(AXIS), "1 0 0 0"), (continue_line(1), "1 0 1 0")]
+    spaced = [
+        (f"  recipe   {recipe([PLANE, GLASS]).hex()}  ", None),
+        (" room  0027", None),
+        (f"start {' '.join(word(x) for x in AXIS).lower()}  {word(2.0)} ", "1 0 0 0"),
+        ("continue 000000000000000000000000000001", "1 0 1 0"),
+        (STATE.lower().replace("state 0 0", "state  000 0").replace("state", " state"), None),
+        (" continue 65535", "1 0 2 1"),
+        (state_line(2**64 - 1, 2**64 - 1, 65535, NAN, [NAN] * 6, NAN, -INFINITY, 2**64 - 1, 255).replace("7FF8", "FFFA"), None),
+        ("continue 65535", f"12 0 {2**64 - 1} 255"),
+        ("room 8192", None),
+        ("recipe  ", None),
+        (start_line(AXIS), "1 0 0 1"),
+    ]
+    return [*begun, *((line, "?") for line in UNREADABLE), (continue_line(0), "1 0 1 0"), *spaced]
+
+
+def lenses():
+    """Whole, and cut into odd parts."""
+    ray = [0.3, -0.2, -1.0, 0.0, 0.28, 0.96]
+    yield traced(DOUBLET, [6.0, 3.0, -20.0, *UP], "4 1", cuts=[(0, "0 0"), (3, "3 0")])
+    yield [*given(PHONE), (start_line(ray), "1 0 0 0"), (continue_line(7), "1 0 7 0"), (continue_line(), "1 0")]
+    yield [*given(MIRRORS), (start_line([30.0, 20.0, 0.0, *UP]), "1 0 0 0"), (continue_line(5), "1 0 5 0"), (continue_line(), "1 0")]
+    yield [*given(TORIC), (start_line([9.0, -5.0, -10.0, 0.0, 0.28, 0.96]), "1 0 0 0"), (continue_line(3), "1 0 3 0"), (continue_line(), "1 0")]
+
+
+# Longer than a stored list should be: the longest lines, and the station before any line.
+LONG = [
+    (continue_line(), "12 0 0 0"),
+    ("recipe " + "00" * 65536, None),
+    (room_line(0), None),
+    (start_line(AXIS), "10 0 0 10"),
+    ("recipe " + "00" * 65537, "?"),
+    ("recipe " + " " * 131193, None),
+    (start_line(AXIS), "1 0 0 1"),
+    ("recipe " + " " * 131194, "?"),
+    ("recipe " + "0" * 300000, "?"),
+    (continue_line(), "1 0 0 1"),
+]
+
+
+def fixed_scripts():
+    """All but the long ones."""
+    return [EXAMPLE, SIGNS, *TRACES, *lenses(), *damaged(), *bad_rays(), *rooms(), *forged(), unreadable(), longest()]

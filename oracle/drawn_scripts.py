@@ -41,7 +41,7 @@ class Scripts(Rays):
         return surfaces, [r * math.cos(angle), r * math.sin(angle) + z * slope, z, 0.0, slope / length, 1.0 / length]
 
     def lens(self):
-        return self.ran(*self.beam(self.choice(["doublet", "phone", "mirrors", "toric"])))
+        return self.ran(*self.beam(self.choice(["doublet", "phone", "mirrors", "toroid"])))
 
     def relay(self):
         surfaces, ray = self.beam("relay")
@@ -121,7 +121,8 @@ class Scripts(Rays):
             at = self.random.randrange(len(records))
             records[at] = self.wrong_record(surfaces[at])
         data = b"".join(records) + self.random.randbytes(self.choice([0, 0, 0, 1, 2, 3, 4, 50]))
-        room, start = room_line(self.choice([self.room(surfaces), self.room(surfaces), 12])), start_line(ray, self.choice([1.0, 1.0, -1.0]))
+        room = room_line(self.choice([self.room(surfaces), self.room(surfaces), 12]))
+        start = start_line(ray, self.choice([1.0, 1.0, -1.0]))
         if self.one_in(2):
             return [recipe_line(data), room, start, continue_line(2)]
         good = recipe_line(recipe(surfaces))
@@ -139,7 +140,8 @@ class Scripts(Rays):
     def standing(self):
         """A recipe, and a state that fits it."""
         first, ray = self.met()
-        before = [(kind, -1.0, 1.0, self.surface(kind), False) for kind in self.random.choices(list(KINDS), k=self.random.randrange(3))]
+        kinds = self.random.choices(list(KINDS), k=self.random.randrange(3))
+        before = [(kind, -1.0, 1.0, self.surface(kind), False) for kind in kinds]
         surfaces = [*before, *self.behind(first, ray)]
         number, limit = len(before), LIMITS[first[0]]
         vertex_plane = (first[1] - ray[2]) / ray[5] if ray[5] else 0.0
@@ -173,16 +175,17 @@ class Scripts(Rays):
         """A state that fits, with one or two numbers changed."""
         surfaces, state = self.standing()
         for _ in range(self.choice([1, 1, 1, 2])):
+            any_count, number, place = self.random.getrandbits(64), state["number"], state["place"]
             what = self.choice([*state, "outcome", "ray"])
             state[what] = {
-                "number": lambda: self.choice([0, state["number"] + 1, len(surfaces), 2**32 + state["number"], self.random.getrandbits(64)]),
-                "place": lambda: self.choice([*places(surfaces), state["place"] + 1, 2**32 + state["place"], self.random.getrandbits(64)]),
-                "passes": lambda: self.choice([0, 1, 24, 25, 34, 35, self.random.randrange(65536)]),
-                "t": self.hostile,
-                "ray": lambda: [self.choice([x, x, self.hostile()]) for x in state["ray"]],
-                "index": lambda: self.choice([0.0, -0.0, -1.0, self.hostile()]),
-                "path": self.hostile,
-                "steps": lambda: self.choice([35, 60, 61, 70, 71, 2**32, self.random.getrandbits(64)]),
-                "outcome": lambda: self.random.randrange(14),
-            }[what]()
+                "number": self.choice([0, number + 1, len(surfaces), 2**32 + number, any_count]),
+                "place": self.choice([*places(surfaces), place + 1, 2**32 + place, any_count]),
+                "passes": self.choice([0, 1, 24, 25, 34, 35, self.random.randrange(65536)]),
+                "t": self.hostile(),
+                "ray": [self.choice([x, x, self.hostile()]) for x in state["ray"]],
+                "index": self.choice([0.0, -0.0, -1.0, self.hostile()]),
+                "path": self.hostile(),
+                "steps": self.choice([35, 60, 61, 70, 71, 2**32, any_count]),
+                "outcome": self.random.randrange(14),
+            }[what]
         return self.taken_up(surfaces, state)

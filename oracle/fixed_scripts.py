@@ -5,15 +5,22 @@ reply as lines. None stands beside a line without a reply, "?" beside one that c
 import struct
 
 from floats import LARGEST, SMALLEST, word
-from recipes import DOUBLET, LIMITS, MIRRORS, PHONE, RELAY, TORIC, bytes_of, places, recipe, record
-from scripts import MOST, WIDTH, continue_line, recipe_line, room_line, start_line, state_line, words
+from operations import SEMI
+from recipes import LIMITS, RELAY, SAMPLES, bytes_of, places, recipe, record
+from scripts import WIDTH, continue_line, recipe_line, room_line, start_line, state_line, words
 
 INFINITY = float("inf")
 NAN = float("nan")
 UP = [0.0, 0.0, 1.0]
 DOWN = [0.0, 0.0, -1.0]
 AXIS = [0.0, 0.0, -5.0, *UP]
-PLANE = ("conic", 0.0, 2.0, [0.0, 0.0, 10.0])
+
+
+def plane(z=0.0, index=1.0, semi=10.0, mirror=False):
+    return ("conic", z, index, [0.0, 0.0, semi], mirror)
+
+
+PLANE = plane(index=2.0)
 
 
 def given(surfaces, room=None):
@@ -32,45 +39,28 @@ def bump(semi):
     return [("even", 0.0, 1.0, [0.0, 0.0, semi, 1 / 8])]
 
 
+def hit(state, record):
+    """The whole reply to a first step that hits the only surface."""
+    return (continue_line(1), ["continue 1 0", state_line(**DONE_AFTER_ONE | state), f"record 0 {words([1.0, *record, 1.0])}"])
+
+
+DONE_AFTER_ONE = dict(number=1, place=44, passes=0, t=0.0, steps=1, outcome=1)
 EXAMPLE = [
     *given([PLANE]),
     (start_line(AXIS), ["start 1 0", state_line(0, 0, 0, 0.0, AXIS, 1.0, 0.0, 0, 0)]),
-    (
-        continue_line(1),
-        [
-            "continue 1 0",
-            state_line(1, 44, 0, 0.0, [0.0, 0.0, 0.0, *UP], 2.0, 5.0, 1, 1),
-            f"record 0 {words([1.0, 5.0, 0.0, 0.0, 0.0, *DOWN, *UP, 1.0, 1.0])}",
-        ],
-    ),
+    hit(dict(ray=[0.0, 0.0, 0.0, *UP], index=2.0, path=5.0), [5.0, 0.0, 0.0, 0.0, *DOWN, *UP, 1.0]),
 ]
 
 # Newton's start keeps -0.0, and the path does not; a plane's maximum with 0 is +0.0, and so is the point then.
 SIGNS = [
     *given([("even", 0.0, 1.0, [0.0, 0.0, 1.0])]),
     (start_line([0.0, 0.0, 0.0, *DOWN]), "1 0 0 0"),
-    (
-        continue_line(1),
-        [
-            "continue 1 0",
-            state_line(1, 44, 0, 0.0, [0.0, 0.0, 0.0, *DOWN], 1.0, 0.0, 1, 1),
-            f"record 0 {words([1.0, -0.0, 0.0, 0.0, 0.0, *DOWN, *DOWN, 0.0, 1.0])}",
-        ],
-    ),
-    *given([("conic", 0.0, 1.0, [0.0, 0.0, 1.0])]),
+    hit(dict(ray=[0.0, 0.0, 0.0, *DOWN], index=1.0, path=0.0), [-0.0, 0.0, 0.0, 0.0, *DOWN, *DOWN, 0.0]),
+    *given([plane()]),
     (start_line([-0.0, 0.0, 0.0, *UP]), "1 0 0 0"),
-    (
-        continue_line(1),
-        [
-            "continue 1 0",
-            state_line(1, 44, 0, 0.0, [0.0, 0.0, 0.0, *UP], 1.0, 0.0, 1, 1),
-            f"record 0 {words([1.0, 0.0, 0.0, 0.0, 0.0, *DOWN, *UP, 1.0, 1.0])}",
-        ],
-    ),
+    hit(dict(ray=[0.0, 0.0, 0.0, *UP], index=1.0, path=0.0), [0.0, 0.0, 0.0, 0.0, *DOWN, *UP, 1.0]),
 ]
 
-GLASS = ("conic", 0.0, 1.5, [0.0, 0.0, 10.0])
-FAR = ("conic", 1e308, 1.0, [0.0, 0.0, 10.0])
 TRACES = [
     # document 01's edges
     traced(bump(5.0), [4.0, 0.0, -1.0, *UP], "2 1", cuts=[(0, "0 0"), (1, "1 0")]),
@@ -79,6 +69,8 @@ TRACES = [
     traced([PLANE], [0.0, 0.0, 2.0**-24, *UP], "1 1"),
     traced([PLANE], [0.0, 0.0, 2.0**-23, *UP], "1 6"),
     traced([("conic", 0.0, 1.0, [1 / 8, 0.0, 10.0])], [0.0, 0.0, -2.0, *UP], "1 1"),
+    # touched at the vertex, which is no front face; k is exactly 0 and passes
+    traced([("conic", 0.0, 1.0, [1.0, 0.0, 10.0])], [-1.0, 0.0, 0.0, 1.0, 0.0, 0.0], "1 1"),
     # ports that look right: the other sheet's root, and the even asphere's second exit beside the biconic's
     traced([("conic", 0.0, 1.0, [1.0, -2.0, 10.0])], AXIS, "1 1"),
     traced([("even", 0.0, 1.0, [0.0, 0.0, 0.5])], [0.0, 0.0, 2.0**-30, 2.0**50, 0.0, 2.0**20], "1 1"),
@@ -94,21 +86,21 @@ TRACES = [
     traced([("even", 0.0, 1.0, [0.0, 0.0, 10.0, 1 / 8])], [4.0, 0.0, 3.0, 1.0, 0.0, 1.0], "1 4"),
     traced([("conic", 0.0, 1.0, [0.25, 0.0, 100.0])], [-4.0, -8.0, 4.0, 1.0, 2.0, 0.0], "1 5"),
     traced([("toroid", 0.0, 1.0, [0.0, 0.0, 0.0, 10.0])], AXIS, "1 5"),
-    traced([PLANE, ("conic", -1.0, 1.0, [0.0, 0.0, 10.0])], AXIS, "2 6", cuts=[(1, "1 0")]),
-    traced([PLANE, ("conic", 1.0, 1.0, [0.0, 0.0, 1.0])], [2.0, 0.0, -5.0, *UP], "2 7"),
-    traced([("conic", 0.0, 1.0, [0.0, 0.0, 10.0])], [0.0, 0.0, -1.0, 1e200, 0.0, 1.0], "1 7"),
-    traced([("conic", 0.0, 1.0, [0.0, 0.0, 10.0])], [0.0, 0.0, -1.0, 0.8, 0.0, 0.6], "1 8", index=2.0),
-    traced([("conic", 0.0, 1.0, [0.0, 0.0, 10.0], True)], [0.0, 0.0, -1.0, 0.8, 0.0, 0.6], "1 1", index=2.0),
+    traced([PLANE, plane(-1.0)], AXIS, "2 6", cuts=[(1, "1 0")]),
+    traced([PLANE, plane(1.0, semi=1.0)], [2.0, 0.0, -5.0, *UP], "2 7"),
+    traced([plane()], [0.0, 0.0, -1.0, 1e200, 0.0, 1.0], "1 7"),
+    traced([plane()], [0.0, 0.0, -1.0, 0.8, 0.0, 0.6], "1 8", index=2.0),
+    traced([plane(mirror=True)], [0.0, 0.0, -1.0, 0.8, 0.0, 0.6], "1 1", index=2.0),
     # 9: t and point; the path alone; the direction alone
-    traced([FAR], [0.0, 0.0, -1e308, *UP], "1 9"),
-    traced([(*FAR, True), ("conic", -7e307, 1.0, [0.0, 0.0, 10.0])], [0.0, 0.0, 0.0, *UP], "2 9"),
-    traced([("conic", 0.0, 2.0**-600, [0.0, 0.0, 10.0])], AXIS, "1 9", index=2.0**600),
-    traced([("conic", 0.0, 2.0**-600, [0.0, 0.0, 10.0], True)], AXIS, "1 1", index=2.0**600),
-    # a direction of any length runs on; k exactly 0 passes, and leaves along the plane
-    traced([PLANE, ("conic", 1.0, 1.0, [0.0, 0.0, 10.0])], [0.0, 0.0, -5.0, 0.0, 0.0, 1e3], "2 1"),
-    traced([("conic", 0.0, 1.0, [0.0, 0.0, 10.0])], [0.0, 0.0, -5.0, 0.0, 0.0, 1e200], "1 1"),
+    traced([plane(1e308)], [0.0, 0.0, -1e308, *UP], "1 9"),
+    traced([plane(1e308, mirror=True), plane(-7e307)], [0.0, 0.0, 0.0, *UP], "2 9"),
+    traced([plane(index=2.0**-600)], AXIS, "1 9", index=2.0**600),
+    traced([plane(index=2.0**-600, mirror=True)], AXIS, "1 1", index=2.0**600),
+    # a direction of any length runs on; one of infinite length leaves none
+    traced([PLANE, plane(1.0)], [0.0, 0.0, -5.0, 0.0, 0.0, 1e3], "2 1"),
+    traced([plane()], [0.0, 0.0, -5.0, 0.0, 0.0, 1e200], "1 1"),
     # a mirror turns the beam back to a surface that it has passed, and keeps the index
-    traced([GLASS, ("conic", 5.0, 3.0, [0.0, 0.0, 10.0], True), ("conic", 0.0, 1.0, [0.0, 0.0, 10.0])], [0.0, 0.0, -5.0, 0.0, 0.6, 0.8], "3 1"),
+    traced([plane(index=1.5), plane(5.0, 3.0, mirror=True), plane()], [0.0, 0.0, -5.0, 0.0, 0.6, 0.8], "3 1"),
 ]
 
 # Bytes instead of a recipe, and what start and continue answer: number and place.
@@ -117,7 +109,7 @@ EVEN = ("even", 1.0, 1.0, [0.0, 0.0, 10.0, 0.0])
 BICONIC = ("biconic", 1.0, 1.0, [0.0, 0.0, 0.0, 0.0, 10.0])
 TOROID = ("toroid", 1.0, 1.0, [5.0, 0.0, 0.0, 10.0])
 EACH_KIND = [PLANE, (*EVEN, True), BICONIC, (*TOROID, True)]
-OTHER_MIRRORS = [(*PLANE, True), EVEN, (*BICONIC, True), TOROID]
+OTHER_MIRRORS = [plane(mirror=True), EVEN, (*BICONIC, True), TOROID]
 
 
 def behind(data):
@@ -142,10 +134,6 @@ def spoilt(surface, **changes):
     return record(kind, changes.get("vertex", vertex), changes.get("index", index), numbers, *mirror)
 
 
-def semi_place(surface):
-    return {"conic": 2, "even": 2, "biconic": 4, "toroid": 3}[surface[0]]
-
-
 DAMAGED = [
     *((behind(record(*PLANE)[:n]), 10, AFTER) for n in (1, 3, 4, 11, 43)),
     (record(*PLANE)[:-1], 10, 0),
@@ -160,7 +148,7 @@ DAMAGED = [
     *((behind(spoilt(s, index=INFINITY)), 2, AFTER) for s in EACH_KIND[2:]),
     *((behind(spoilt(s, own=(0, -INFINITY))), 2, AFTER) for s in EACH_KIND[1:3]),
     *((behind(spoilt(s, own=(-1, NAN))), 2, AFTER) for s in EACH_KIND),
-    *((behind(spoilt(s, own=(semi_place(s), -SMALLEST))), 3 if s[0] == "conic" else 2, AFTER) for s in (*EACH_KIND, *OTHER_MIRRORS)),
+    *((behind(spoilt(s, own=(SEMI[s[0]], -SMALLEST))), 3 if s[0] == "conic" else 2, AFTER) for s in EACH_KIND + OTHER_MIRRORS),
     *((behind(spoilt(s, index=0.0)), 4, AFTER) for s in EACH_KIND),
     (behind(spoilt(PLANE, index=-0.0)), 4, AFTER),
     (behind(spoilt(TOROID, index=-1.5)), 4, AFTER),
@@ -177,7 +165,7 @@ DAMAGED = [
 
 def damaged():
     """Refused by continue, which stays where it was, and some by start, before the ray and the room are looked at."""
-    good = [PLANE, ("conic", 1.0, 1.0, [0.0, 0.0, 10.0])]
+    good = [PLANE, plane(1.0)]
     tried = [*given(good), (start_line(AXIS), "1 0 0 0")]
     for data, number, place in DAMAGED:
         tried += [(recipe_line(data), None), (continue_line(1), f"{number} {place} 0 0")]
@@ -187,7 +175,7 @@ def damaged():
         tried += [(recipe_line(data), None), (start_line([NAN] * 6), f"{number} {place} 0 {number}")]
     yield tried
     # a semi-diameter and a count at their limits are taken
-    yield traced([("conic", 0.0, SMALLEST, [0.0, 0.0, -0.0])], AXIS, "1 9")
+    yield traced([plane(index=SMALLEST, semi=-0.0)], AXIS, "1 9")
     yield traced([("even", 0.0, 1.0, [0.0, 0.0, 0.0, *[1.0] * 8], True)], AXIS, "1 1")
 
 
@@ -203,11 +191,12 @@ def bad_rays():
         tried += [(start_line(AXIS, index), "4 0 0 4")]
     yield [*tried, (start_line([*AXIS[:5], NAN], -1.0), "2 0 0 2")]
     yield [*given([], 3), (start_line(AXIS, 0.0), "4 0 0 4"), (continue_line(), "12 0 0 4")]
-    yield [*given([PLANE]), (start_line(AXIS, LARGEST), "1 0 0 0"), (start_line([0.0] * 6, SMALLEST), "1 0 0 0"), (continue_line(), "1 0 1 6")]
+    taken = [(start_line(AXIS, LARGEST), "1 0 0 0"), (start_line([0.0] * 6, SMALLEST), "1 0 0 0")]
+    yield [*given([PLANE]), *taken, (continue_line(), "1 0 1 6")]
 
 
 def rooms():
-    two = [PLANE, ("conic", 1.0, 1.0, [0.0, 0.0, 10.0])]
+    two = [PLANE, plane(1.0)]
     on = [(continue_line(1), "1 0 1 0"), (continue_line(), "1 0 2 1")]
     for room in (26, 27, 40):
         yield [*given(two, room), (start_line(AXIS), "1 0 0 0"), *on]
@@ -217,8 +206,10 @@ def rooms():
     yield [*given(two, 30), (start_line([*AXIS[:5], NAN]), "2 0 0 2")]
     yield [*given(two, 15), (continue_line(3), "11 0 0 2"), (recipe_line(recipe([PLANE])), None), (continue_line(3), "12 0 0 2")]
     # records that were written before the room was new are not written again, and 11 comes before 12
-    yield [*given(two), (start_line(AXIS), "1 0 0 0"), on[0], (room_line(29), None), on[1], (room_line(25), None), (continue_line(), "11 0 2 1")]
-    yield [*given([]), (room_line(0), None), (start_line(AXIS), "1 0 0 1"), (continue_line(), "1 0 0 1"), (room_line(2), None), (continue_line(0), "1 0 0 1")]
+    begun = [*given(two), (start_line(AXIS), "1 0 0 0"), on[0], (room_line(29), None), on[1]]
+    yield [*begun, (room_line(25), None), (continue_line(), "11 0 2 1")]
+    begun = [*given([]), (start_line(AXIS), "1 0 0 1"), (continue_line(), "1 0 0 1")]
+    yield [*begun, (room_line(2), None), (continue_line(0), "1 0 0 1")]
 
 
 STAND = [PLANE, ("even", 10.0, 1.5, [0.01, 0.0, 10.0, 1e-3]), ("toroid", 20.0, 1.0, [50.0, 0.01, 0.0, 10.0])]
@@ -245,7 +236,7 @@ FORGED_WRONG = [
     (DONE, dict(passes=1)),
     *((ON_EVEN, dict(steps=n)) for n in (LIMIT + 1, 2**32 + 5, 2**64 - 1)),
     (DONE, dict(steps=LIMIT + 1)),
-    *((ON_EVEN, dict(ray=[*ON_EVEN["ray"][:i], x, *ON_EVEN["ray"][i + 1 :]])) for i, x in enumerate([NAN, INFINITY, -INFINITY] * 2)),
+    *((ON_EVEN, dict(ray=[*AXIS[:i], x, *AXIS[i + 1 :]])) for i, x in enumerate([NAN, INFINITY, -INFINITY] * 2)),
     *((DONE, dict(ray=[*AXIS[:i], NAN, *AXIS[i + 1 :]])) for i in (0, 5)),
     *((ON_EVEN, dict(path=x)) for x in (NAN, INFINITY, -INFINITY)),
     *((ON_EVEN, dict(index=x)) for x in (0.0, -0.0, -1.0, NAN, INFINITY)),
@@ -260,7 +251,7 @@ FORGED_ON = [
     # t so far is not used at pass count 0, and is kept while no step is taken; later it is used as it is
     *((ON_EVEN, dict(t=t), n, end) for t in (NAN, 1e300) for n, end in ((0, "5 0"), (1, "6 0"))),
     *((ON_EVEN, dict(passes=1, t=t), 0, "5 0") for t in (NAN, -0.0)),
-    (ON_EVEN, dict(passes=1, t=-3.0), 1, "6 0"),
+    (ON_EVEN, dict(passes=1, t=-3.0, ray=[0.5, 0.0, 1.0, 0.6, 0.0, 0.8]), 1, "6 0"),
     (ON_EVEN, dict(passes=23, t=-3.0), 1, "6 0"),
     (ON_EVEN, dict(passes=1, t=0.0, ray=[0.5, 0.0, 1.0, 1.0, 0.0, 0.0]), 1, "6 0"),
     *((ON_TOROID, dict(passes=1, t=t), 33, "38 0") for t in (NAN, INFINITY)),
@@ -269,6 +260,7 @@ FORGED_ON = [
 # and by these some do.
 FORGED_ENDED = [
     (ON_PLANE, dict(t=NAN), 1, "6 0"),
+    (ON_EVEN, dict(path=-0.0, ray=[0.0, 0.0, 10.0, *DOWN]), 1, "6 0"),
     (ON_EVEN, dict(t=NAN), 60, "9 1"),
     (ON_EVEN, dict(passes=1, t=NAN), 1, "6 6"),
     (ON_EVEN, dict(passes=24, t=-3.0), 60, "6 6"),
@@ -303,7 +295,9 @@ def forged():
     yield [*tried, (state_line(**ON_PLANE | dict(outcome=1, steps=0, place=1)), None), (continue_line(), "12 0 0 1")]
     # a refused start's state does not fit; the recipe and the room are told before
     refused = [*given([PLANE]), (start_line(AXIS, -1.0), "4 0 0 4"), (continue_line(), "12 0 0 4")]
-    yield [*refused, (recipe_line(recipe([PLANE, PLANE])), None), (continue_line(), "11 0 0 4"), (recipe_line(b"\0"), None), (continue_line(), "10 0 0 4")]
+    for data, number in ((recipe([PLANE, PLANE]), 11), (b"\0", 10)):
+        refused += [(recipe_line(data), None), (continue_line(), f"{number} 0 0 4")]
+    yield refused
     # a state goes on in another recipe, if its place is there
     begun = [*given(STAND), (start_line([0.5, 0.0, -5.0, *UP]), "1 0 0 0"), (continue_line(1), "1 0 1 0")]
     shorter = [(recipe_line(recipe(STAND[:2])), None), (continue_line(1), "1 0 2 0")]
@@ -313,12 +307,12 @@ def forged():
 
 
 def longest():
-    """512 records, near whose end a trace is taken up; and a byte behind them."""
+    """512 records, near whose end a trace is taken up; and one more behind them."""
     at = places(RELAY)
     near = state_line(509, at[509], 0, 0.0, [1.0, 2.0, 2.0 * 509 - 1, *UP], 1.5, 1000.0, 509, 0)
     begun = [(recipe_line(recipe(RELAY)), None), (room_line(6655), None), (start_line(AXIS), "11 0 0 11"), (room_line(6656), None)]
     taken_up = [(near, None), (continue_line(2), "1 0 511 0"), (continue_line(0), "1 0 511 0"), (continue_line(), "1 0 512 1")]
-    behind_it = [(recipe_line(recipe(RELAY) + b"\0"), None), (continue_line(1), f"10 {at[512]} 512 1")]
+    behind_it = [(recipe_line(recipe([*RELAY, PLANE])), None), (continue_line(1), f"10 {at[512]} 512 1")]
     return [*begun, (start_line([1.0, 2.0, -5.0, *UP]), "1 0 0 0"), *taken_up, *behind_it]
 
 
@@ -366,6 +360,7 @@ UNREADABLE = [
     f"{STATE.rsplit(' ', 1)[0]} 256",
     f"state 0 0 0 0 {' '.join([FOUR] * 8)} 0 0",
     f"state 0 0 {' '.join([FOUR] * 10)} 0 0",
+    f"state 0 0 0 {' '.join([FOUR] * 10)} 0 0",
     "continue",
     "continue 1 1",
     "continue 65536",
@@ -385,7 +380,7 @@ def unreadable():
     """Nothing happens to the station meanwhile; and lines that are written otherwise and can be read."""
     begun = [*given([PLANE, PLANE], 27), (start_line(AXIS), "1 0 0 0"), (continue_line(1), "1 0 1 0")]
     spaced = [
-        (f"  recipe   {recipe([PLANE, GLASS]).hex()}  ", None),
+        (f"  recipe   {recipe([PLANE, plane(index=1.5)]).hex()}  ", None),
         (" room  0027", None),
         (f"start {' '.join(word(x) for x in AXIS).lower()}  {word(2.0)} ", "1 0 0 0"),
         ("continue 000000000000000000000000000001", "1 0 1 0"),
@@ -401,12 +396,11 @@ def unreadable():
 
 
 def lenses():
-    """Whole, and cut into odd parts."""
-    ray = [0.3, -0.2, -1.0, 0.0, 0.28, 0.96]
-    yield traced(DOUBLET, [6.0, 3.0, -20.0, *UP], "4 1", cuts=[(0, "0 0"), (3, "3 0")])
-    yield [*given(PHONE), (start_line(ray), "1 0 0 0"), (continue_line(7), "1 0 7 0"), (continue_line(), "1 0")]
-    yield [*given(MIRRORS), (start_line([30.0, 20.0, 0.0, *UP]), "1 0 0 0"), (continue_line(5), "1 0 5 0"), (continue_line(), "1 0")]
-    yield [*given(TORIC), (start_line([9.0, -5.0, -10.0, 0.0, 0.28, 0.96]), "1 0 0 0"), (continue_line(3), "1 0 3 0"), (continue_line(), "1 0")]
+    """Stopped in the midst of a trace, and brought to its end."""
+    for name, steps in (("doublet", 3), ("phone", 7), ("mirrors", 5), ("toroid", 3)):
+        ray, surfaces = SAMPLES[name]
+        begun = [*given(surfaces), (start_line(ray), "1 0 0 0"), (continue_line(steps), f"1 0 {steps} 0")]
+        yield [*begun, (continue_line(), "1 0")]
 
 
 # Longer than a stored list should be: the longest lines, and the station before any line.
@@ -421,6 +415,8 @@ LONG = [
     ("recipe " + " " * 131194, "?"),
     ("recipe " + "0" * 300000, "?"),
     (continue_line(), "1 0 0 1"),
+    (recipe_line(recipe(RELAY) + b"\0"), None),
+    (continue_line(), f"10 {44 * 512} 0 1"),
 ]
 
 

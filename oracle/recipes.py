@@ -5,7 +5,6 @@ import struct
 
 KINDS = {"conic": 1, "even": 2, "biconic": 3, "toroid": 4}
 LIMITS = {"conic": 1, "even": 25, "biconic": 35, "toroid": 35}
-WIDTH = 13
 
 
 def bytes_of(kind, numbers):
@@ -82,11 +81,19 @@ RELAY = [
     for i in range(512)
 ]
 
+# What stands in samples/: a ray and a lens, in air.
+SAMPLES = {
+    "doublet": ([6.0, 3.0, -20.0, 0.0, 0.0, 1.0], DOUBLET),
+    "phone": ([0.3, -0.2, -1.0, 0.0, 0.28, 0.96], PHONE),
+    "mirrors": ([30.0, 20.0, 0.0, 0.0, 0.0, 1.0], MIRRORS),
+    "toroid": ([9.0, -5.0, -10.0, 0.0, 0.28, 0.96], TORIC),
+}
+
 # Of each lens: its surfaces, and where a beam into it starts, how wide it may be, and how steep.
 LENSES = {
     "doublet": (DOUBLET, -20.0, 11.0, 0.02),
     "phone": (PHONE, -1.0, 0.8, 0.3),
     "mirrors": (MIRRORS, 0.0, 50.0, 0.01),
-    "toric": (TORIC, -10.0, 18.0, 0.15),
+    "toroid": (TORIC, -10.0, 18.0, 0.15),
     "relay": (RELAY, -5.0, 8.0, 0.02),
 }

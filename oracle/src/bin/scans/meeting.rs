@@ -1,7 +1,7 @@
 //! Where a ray meets a surface, and in how many passes.
 //!
-//! The Rust text's intersections do not tell their passes, so Newton's are made here once more, over the Rust text's own sags and slopes.
-//! Each time they are made from the first one on, their end has to be what the Rust text's own intersection answers.
+//! The Rust text's intersections do not tell their passes, so Newton's are made here once more, over the Rust text's own sags and
+//! slopes. Each time they are made from the first one on, their end has to be what the Rust text's own intersection answers.
 
 use std::ops::ControlFlow::{self, Break, Continue};
 

@@ -1,0 +1,138 @@
+-- Demand 3: however the allowances are chosen, what stands after every call is the unbroken trace's. Assumes nothing.
+use Prim.Native.Nat.{ℕ, zero, suc, _+_, _-_, _*_, _≤_, _<_, min, zero-le}
+use mathlib.Core.Path.{_≡_, refl, sym, _∙_, ap, subst}
+use mathlib.Core.List.{List, [], _∷_, _++_}
+use mathlib.Core.Bool.{Bool, true, false, not}
+use native.Mathlib.Omega.{arith}
+use native.Mathlib.Nat.{add-zero, zero-add}
+use lib.ListN.{length, replicate, length-replicate}
+use lib.Dec.{eqb, leb, ltb}
+use lib.Ieee.{Float}
+use borrow.Author.Tests.{le-leb, le-ltb, eqb-true, eqb-false, ne-eqb}
+use Rattle.numbers.specs.Arithmetic.{if_then_else_, 0f}
+use Rattle.surfaces.specs.declared.types.Ray.{Ray}
+use Rattle.recipe.specs.Scan.{Item, Scan, items, notes, nothing, sumLimits}
+use Rattle.recipe.proofs.Chain.{Chain, place-first}
+use Rattle.recipe.proofs.Scans.{scan-sound}
+use Rattle.recipe.proofs.Records.{limit-bounds}
+use Rattle.trace.specs.declared.leg.Beam.{Beam}
+use Rattle.trace.specs.declared.state.State.{State}
+use Rattle.trace.specs.Leg.{width}
+use Rattle.trace.specs.Unbroken.{Trace, unbroken, total, finished, rows, padded}
+use Rattle.trace.specs.State.{Held, held, move, advance, beamGood, fitsOf}
+use Rattle.trace.specs.Trace.{Reply, recipeOf, itemsOf, opticsOf, blank, standing, beamOf, firstState, accept, startAt, startOf, continueOn, continueOf}
+use Rattle.trace.specs.Ready.{Stands, walking, arrived, Fit}
+use Rattle.trace.specs.Demand3.{calls, sum, stateAt, traceOf, Kept}
+use Rattle.trace.proofs.Steps.{advance-add, move-ended}
+use Rattle.trace.proofs.Closed.{Shows, startOutcome, closed}
+use Rattle.trace.proofs.Standing.{reached, exactly, total-limit}
+use Rattle.trace.proofs.Fits.{fit-move, length-move, fit-fits}
+use Rattle.trace.proofs.Walks.{chain-of}
+use Rattle.trace.proofs.Starts.{Admitted, admitted-by, admitted-is}
+
+-- what an advance keeps
+module _ (y : List ℕ) (l : List Item) (ch : Chain y 0 l) where
+  pub record Sound (size : ℕ) (h : Held) : Type 0 where
+    pub fit : Fit l (length y) (h .state)
+    pub long : length (h .buffer) ≡ size
+
+  sound-move : (size : ℕ) (h : Held) → Sound size h → (t : Bool) → eqb (h .state .outcome) 0 ≡ t → Sound size (move l h)
+  sound-move size h s true e =
+      let run = eqb-true (h .state .outcome) 0 e in
+      record { fit = fit-move y l ch h (s .fit) run; long = length-move y l ch h (s .fit) run ∙ s .long }
+  sound-move size h s false e = rw (move-ended l h (eqb-false (h .state .outcome) 0 e)) s
+
+  pub sound-advance : (size n : ℕ) (h : Held) → Sound size h → Sound size (advance l n h)
+  unfolding advance
+  sound-advance size zero h s = s
+  sound-advance size (suc n) h s = sound-advance size n (move l h) (sound-move size h s _ refl)
+
+first-outcome : (l : List Item) → (if eqb 0 (length l) then 1 else 0) ≡ startOutcome l
+first-outcome [] = refl
+first-outcome (i ∷ l) = rw (ne-eqb 0 (suc (length l)) (λ e. omega arith))
+
+first-stands : (l : List Item) (b : Beam) → Stands l (firstState (length l) b)
+first-stands [] b = arrived refl refl refl
+first-stands (i ∷ l) b = walking (first-outcome (i ∷ l)) (omega arith) (limit-bounds (i .optic .surface .kind) .0)
+
+module _ (y : List ℕ) (ray : Ray) (index : Float) (z : List Float) (a : Admitted (recipeOf y) ray index (blank z)) where
+  abbrev l : List Item
+  l = itemsOf y
+
+  abbrev b : Beam
+  b = beamOf ray index
+
+  abbrev first : Held
+  first = held (firstState (length l) b) (blank z)
+
+  pub chain : Chain y 0 l
+  chain = chain-of y (a .good)
+
+  pub sound : (n : ℕ) → Sound y l chain (length z) (advance l n first)
+  sound n =
+      sound-advance y l chain (length z) n first
+      (record { fit = record { beam = a .beam; place = sym (place-first y chain); stands = first-stands l b }; long = length-replicate (length z) 0f })
+
+  -- after n steps
+  pub shown : (n : ℕ) → Shows [] (length z) n (unbroken (opticsOf l) b) (stateAt l (length y) 0 b 0 n) (advance l n first)
+  shown n =
+      subst (λ (o : ℕ). Shows [] (length z) n (unbroken (opticsOf l) b) (stateAt l (length y) 0 b 0 n) (advance l n (held (standing 0 0 b 0 o) (blank z)))) (sym (first-outcome l))
+      (closed y l l chain 0 0 (length z) n b [] refl refl (subst (λ (k : ℕ). width * length l ≤ k) (length-replicate (length z) 0f) (a .room)))
+
+  few : (n : ℕ) → advance l n first .state .steps ≤ sumLimits l
+  few n =
+      let s = ap (λ (s : State). s .steps) (shown n .state) ∙ reached l (length y) 0 0 n b .steps in
+      omega (arith, s, total-limit l b)
+
+  pub genuine-fits : (n : ℕ) → fitsOf (notes (advance l n first .state .number) nothing l) (length y) (advance l n first .state) ≡ true
+  genuine-fits n = fit-fits l (length y) (advance l n first .state) (sound n .fit) (few n)
+
+  call : (n k : ℕ) → continueOf y (advance l n first .state) (advance l n first .buffer) k ≡ accept (advance l (n + k) first)
+  unfolding continueOf
+  call n k =
+      let h : Held = advance l n first in
+      ap (λ (r : Scan). continueOn r (length y) (h .state) (h .buffer) k) (a .good)
+      ∙ rw (le-ltb (length (h .buffer)) (width * length l) (omega (arith, sound n .long, length-replicate (length z) 0f, a .room)), genuine-fits n)
+      (ap accept (sym (advance-add l n k first)))
+
+  pub row : (ks : List ℕ) (n : ℕ) → calls y ks (accept (advance l n first)) ≡ accept (advance l (n + sum ks) first)
+  unfolding calls sum
+  row [] n = rw (add-zero n)
+  row (k ∷ ks) n =
+      let e : n + k + sum ks ≡ n + (k + sum ks) = omega arith in
+      ap (λ (r : Reply). calls y ks r) (call n k) ∙ row ks (n + k) ∙ ap (λ (m : ℕ). accept (advance l m first)) e
+
+  pub kept : (n : ℕ) → Kept y ray index (length z) n (accept (advance l n first))
+  unfolding traceOf
+  kept n =
+      let s = shown n in
+      let r = reached l (length y) 0 0 n b in
+      record {
+        accepted = refl;
+        place = refl;
+        buffer = s .buffer;
+        exactly = exactly (unbroken (opticsOf l) b .marks) n;
+        steps = ap (λ (q : State). q .steps) (s .state) ∙ r .steps ∙ zero-add _;
+        state = s .state;
+        outcome = ap (λ (q : State). q .outcome) (s .state) ∙ r .outcome;
+        ended = λ c. let e = r .ended c in (ap (λ (q : State). q .beam) (s .state) ∙ e .0, ap (λ (q : State). q .number) (s .state) ∙ e .1 ∙ zero-add _);
+      }
+
+-- an accepted start
+module _ (y : List ℕ) (ray : Ray) (index : Float) (z : List Float) (h : startOf y ray index z .answer .number ≡ 1) where
+  pub admitted-start : Admitted (recipeOf y) ray index (blank z)
+  unfolding startOf startAt
+  admitted-start = admitted-by 0 ray index (blank z) (recipeOf y) (scan-sound y 512 0) _ h
+
+  started : startOf y ray index z ≡ accept (held (firstState (length (itemsOf y)) (beamOf ray index)) (blank z))
+  unfolding startOf startAt
+  started = admitted-is 0 ray index (blank z) (recipeOf y) admitted-start _
+
+  after-calls : (ks : List ℕ) → calls y ks (startOf y ray index z) ≡ accept (advance (itemsOf y) (sum ks) (held (firstState (length (itemsOf y)) (beamOf ray index)) (blank z)))
+  unfolding advance
+  after-calls ks =
+      ap (λ (r : Reply). calls y ks r) started ∙ row y ray index z admitted-start ks 0
+      ∙ ap (λ (n : ℕ). accept (advance (itemsOf y) n (held (firstState (length (itemsOf y)) (beamOf ray index)) (blank z)))) (zero-add (sum ks))
+
+  pub any-allowances : (ks : List ℕ) → Kept y ray index (length z) (sum ks) (calls y ks (startOf y ray index z))
+  any-allowances ks = subst (λ (r : Reply). Kept y ray index (length z) (sum ks) r) (sym (after-calls ks)) (kept y ray index z admitted-start (sum ks))

@@ -1,0 +1,12 @@
+-- Laws that several proofs use, and demand 3.
+pub mod Lists
+pub mod Passes
+pub mod Endings
+pub mod Steps
+pub mod Closed
+pub mod Standing
+pub mod Fits
+pub mod Walks
+pub mod Starts
+pub mod Demand3
+pub mod Wholes

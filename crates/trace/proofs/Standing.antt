@@ -1,0 +1,155 @@
+-- The state after n steps beside the unbroken trace, and which surfaces are finished by then. Assumes nothing.
+use Prim.Native.Nat.{ℕ, zero, suc, _+_, _-_, _≤_, _<_, min, zero-le}
+use mathlib.Core.Path.{_≡_, refl, sym, _∙_, ap}
+use mathlib.Core.List.{List, [], _∷_}
+use mathlib.Core.Bool.{Bool, true, false}
+use native.Mathlib.Omega.{arith}
+use native.Mathlib.Nat.{add-zero}
+use lib.ListN.{length, take}
+use lib.Dec.{leb, ltb, leb·zero}
+use borrow.Author.Tests.{le-leb, lt-leb, leb-true, leb-false, lt-ltb, le-ltb, ltb-true, ltb-false}
+use Rattle.numbers.specs.Arithmetic.{if_then_else_, 0f}
+use Rattle.surfaces.specs.Told.{Told, Ended, done}
+use Rattle.surfaces.specs.Surface.{surfaceEnd, limitOf}
+use Rattle.surfaces.proofs.Chains.{chain-ends}
+use Rattle.recipe.specs.Scan.{Item, placeOf, sumLimits}
+use Rattle.trace.specs.declared.leg.Beam.{Beam}
+use Rattle.trace.specs.declared.leg.Leg.{Leg}
+use Rattle.trace.specs.declared.state.State.{State}
+use Rattle.trace.specs.Leg.{legOf, beamAfter}
+use Rattle.trace.specs.Unbroken.{Mark, Trace, unbroken, total, finished, rows}
+use Rattle.trace.specs.Trace.{opticsOf, standing}
+use Rattle.trace.specs.Demand3.{stateAt}
+use Rattle.trace.proofs.Closed.{unbroken-hit, unbroken-off, state-mid, state-hit, state-off}
+
+-- how far a trace u has come after n steps, by a state s that began at surface k with q steps
+pub record Reached (u : Trace) (k q n : ℕ) (s : State) : Type 0 where
+  pub steps : s .steps ≡ q + min n (total (u .marks))
+  pub outcome : s .outcome ≡ (if leb (total (u .marks)) n then u .outcome else 0)
+  pub ended : total (u .marks) ≤ n → (s .beam ≡ u .beam) × (s .number ≡ k + u .hits)
+
+module _ (k q n : ℕ) (a : Mark) where
+  unfinished : (u : Trace) (s : State) → n < a .steps → (l : List Mark) → u .marks ≡ a ∷ l → s .steps ≡ q + n → s .outcome ≡ 0 → Reached u k q n s
+  unfolding total
+  unfinished u s h l m f g =
+      let t : n < total (u .marks) = rw m (omega arith) in
+      record { steps = f ∙ omega (arith, t); outcome = rw (lt-leb (total (u .marks)) n t) g; ended = λ c. absurd (omega (arith, t)) }
+
+  refused : (s : State) (o : ℕ) (b : Beam) → a .steps ≤ n → s .steps ≡ q + a .steps → s .outcome ≡ o → s .beam ≡ b → s .number ≡ k
+      → Reached (record { marks = a ∷ []; outcome = o; beam = b; hits = 0 }) k q n s
+  unfolding total
+  refused s o b h f g e i =
+      record { steps = f ∙ omega arith; outcome = rw (le-leb (a .steps + 0) n (omega arith)) g; ended = λ c. (e, i ∙ sym (add-zero k)) }
+
+  hit : (u : Trace) (s : State) → a .steps ≤ n → Reached u (k + 1) (q + a .steps) (n - a .steps) s
+      → Reached (record { marks = a ∷ u .marks; outcome = u .outcome; beam = u .beam; hits = suc (u .hits) }) k q n s
+  unfolding total
+  hit u s h r =
+      record {
+        steps = r .steps ∙ omega arith;
+        outcome = r .outcome ∙ ap (λ (t : Bool). if t then u .outcome else 0) (shift (leb (total (u .marks)) (n - a .steps)) refl);
+        ended = λ c. let e = r .ended (omega arith) in (e .0, e .1 ∙ omega arith);
+      }
+    where
+      shift : (t : Bool) → leb (total (u .marks)) (n - a .steps) ≡ t → t ≡ leb (a .steps + total (u .marks)) n
+      shift true e = sym (le-leb (a .steps + total (u .marks)) n (omega (arith, leb-true (total (u .marks)) (n - a .steps) e)))
+      shift false e = sym (lt-leb (a .steps + total (u .marks)) n (omega (arith, leb-false (total (u .marks)) (n - a .steps) e)))
+
+module _ (i : Item) (r : List Item) (end k q n : ℕ) (b : Beam) where
+  abbrev e : Ended
+  e = surfaceEnd (i .optic .surface) (b .ray)
+
+  abbrev x : Told Leg
+  x = legOf (i .optic) b (e .answer)
+
+  on-surface : (t : Bool) → leb (e .passes) n ≡ t → (d : Bool) → done x ≡ d
+      → Reached (unbroken (opticsOf r) (beamAfter (i .optic) b (x .value))) (k + 1) (q + e .passes) (n - e .passes) (stateAt r end (k + 1) (beamAfter (i .optic) b (x .value)) (q + e .passes) (n - e .passes))
+      → Reached (unbroken (opticsOf (i ∷ r)) b) k q n (stateAt (i ∷ r) end k b q n)
+  on-surface false t true d rest =
+      let h = leb-false (e .passes) n t in
+      rw (state-mid i r b end k q n h) (unfinished k q n _ _ _ h _ (ap (λ (u : Trace). u .marks) (unbroken-hit i r b d)) refl refl)
+  on-surface false t false d rest =
+      let h = leb-false (e .passes) n t in
+      rw (state-mid i r b end k q n h) (unfinished k q n _ _ _ h _ (ap (λ (u : Trace). u .marks) (unbroken-off i r b d)) refl refl)
+  on-surface true t true d rest =
+      let h = leb-true (e .passes) n t in
+      rw (state-hit i r b end k q n h d, unbroken-hit i r b d) (hit k q n _ _ _ h rest)
+  on-surface true t false d rest =
+      let h = leb-true (e .passes) n t in
+      rw (state-off i r b end k q n h d, unbroken-off i r b d) (refused k q n _ _ _ _ h refl refl refl refl)
+
+pub reached : (r : List Item) (end k q n : ℕ) (b : Beam) → Reached (unbroken (opticsOf r) b) k q n (stateAt r end k b q n)
+unfolding unbroken stateAt total
+reached [] end k q n b = record { steps = omega arith; outcome = rw (leb·zero n); ended = λ c. (refl, sym (add-zero k)) }
+reached (i ∷ r) end k q n b = on-surface i r end k q n b _ refl _ refl (reached r end (k + 1) _ _ _)
+
+-- of the first mark, and of those behind it
+module _ (m : Mark) (l : List Mark) (n : ℕ) where
+  abbrev rest : List Mark
+  rest = finished (n - m .steps) l
+
+  later : m .steps ≤ n → (k : ℕ) (t : Bool) → ltb k (length rest) ≡ t → ltb k (length rest) ≡ leb (total (take (suc k) l)) (n - m .steps)
+      → ltb (suc k) (suc (length rest)) ≡ leb (m .steps + total (take (suc k) l)) n
+  later f k true a b = lt-ltb (suc k) _ (omega (arith, ltb-true k _ a)) ∙ sym (le-leb _ n (omega (arith, leb-true (total (take (suc k) l)) (n - m .steps) (sym b ∙ a))))
+  later f k false a b = le-ltb (suc k) _ (omega (arith, ltb-false k _ a)) ∙ sym (lt-leb _ n (omega (arith, leb-false (total (take (suc k) l)) (n - m .steps) (sym b ∙ a))))
+
+  from-first : (t : Bool) → leb (m .steps) n ≡ t → (k : ℕ) → ((j : ℕ) → k ≡ suc j → ltb j (length rest) ≡ leb (total (take (suc j) l)) (n - m .steps))
+      → ltb k (length (if t then m ∷ rest else [])) ≡ leb (m .steps + total (take k l)) n
+  unfolding total
+  from-first false h k behind = let f = leb-false (m .steps) n h in le-ltb k 0 zero-le ∙ sym (lt-leb (m .steps + total (take k l)) n (omega arith))
+  from-first true h zero behind = let f = leb-true (m .steps) n h in lt-ltb 0 (suc (length rest)) (omega arith) ∙ sym (le-leb (m .steps + 0) n (omega arith))
+  from-first true h (suc k) behind = later (leb-true (m .steps) n h) k _ refl (behind k refl)
+
+-- surface k is finished exactly if its steps and those before it add up to at most n
+pub exactly : (l : List Mark) (n k : ℕ) → k < length l → ltb k (length (finished n l)) ≡ leb (total (take (suc k) l)) n
+unfolding finished total
+exactly [] n k h = absurd (omega arith)
+exactly (m ∷ l) n k h = from-first m l n (leb (m .steps) n) refl k (λ j e. exactly l (n - m .steps) j (omega arith))
+
+few : (i : Item) (l : List Item) (b : Beam) (d : Bool) → done (legOf (i .optic) b (surfaceEnd (i .optic .surface) (b .ray) .answer)) ≡ d
+    → ((c : Beam) → total (unbroken (opticsOf l) c .marks) ≤ sumLimits l)
+    → total (unbroken (opticsOf (i ∷ l)) b .marks) ≤ limitOf (i .optic .surface .kind) + sumLimits l
+unfolding total
+few i l b true d rest = rw (unbroken-hit i l b d) (omega (arith, chain-ends (i .optic .surface) (b .ray) 0f .within, rest (beamAfter (i .optic) b (legOf (i .optic) b (surfaceEnd (i .optic .surface) (b .ray) .answer) .value))))
+few i l b false d rest = rw (unbroken-off i l b d) (omega (arith, chain-ends (i .optic .surface) (b .ray) 0f .within))
+
+-- the steps of a trace are at most the sum of all limits
+pub total-limit : (l : List Item) (b : Beam) → total (unbroken (opticsOf l) b .marks) ≤ sumLimits l
+unfolding unbroken total sumLimits
+total-limit [] b = zero-le
+total-limit (i ∷ l) b = few i l b _ refl (total-limit l)
+
+-- all surfaces are finished once the steps suffice
+pub finished-all : (l : List Mark) (n : ℕ) → total l ≤ n → finished n l ≡ l
+unfolding finished total
+finished-all [] n h = refl
+finished-all (m ∷ l) n h = rw (le-leb (m .steps) n (omega arith)) (ap (λ (r : List Mark). m ∷ r) (finished-all l (n - m .steps) (omega arith)))
+
+-- and the state is that of the trace's end
+abbrev Last : List Item → ℕ → ℕ → ℕ → Beam → Trace → State
+Last r end k q b u = standing (k + u .hits) (placeOf r end (u .hits)) (u .beam) (q + total (u .marks)) (u .outcome)
+
+module _ (i : Item) (r : List Item) (end k q n : ℕ) (b : Beam) where
+  abbrev whole : Trace
+  whole = unbroken (opticsOf (i ∷ r)) b
+
+  last-surface : (d : Bool) → done (x i r end k q n b) ≡ d → total (whole .marks) ≤ n
+      → (let c = beamAfter (i .optic) b (x i r end k q n b .value) in let u = unbroken (opticsOf r) c in
+      total (u .marks) ≤ n - e i r end k q n b .passes → stateAt r end (k + 1) c (q + e i r end k q n b .passes) (n - e i r end k q n b .passes) ≡ Last r end (k + 1) (q + e i r end k q n b .passes) c u)
+      → stateAt (i ∷ r) end k b q n ≡ Last (i ∷ r) end k q b whole
+  unfolding total placeOf
+  last-surface true d h rest =
+      let t : total (whole .marks) ≡ _ = ap (λ (u : Trace). total (u .marks)) (unbroken-hit i r b d) in
+      let c = beamAfter (i .optic) b (x i r end k q n b .value) in
+      let u = unbroken (opticsOf r) c in
+      let a : k + 1 + u .hits ≡ k + suc (u .hits) = omega arith in
+      let f : q + e i r end k q n b .passes + total (u .marks) ≡ q + (e i r end k q n b .passes + total (u .marks)) = omega arith in
+      state-hit i r b end k q n (omega arith) d ∙ rest (omega arith) ∙ rw (unbroken-hit i r b d, a, f)
+  last-surface false d h rest =
+      let t : total (whole .marks) ≡ _ = ap (λ (u : Trace). total (u .marks)) (unbroken-off i r b d) in
+      state-off i r b end k q n (omega arith) d ∙ rw (unbroken-off i r b d, add-zero k, add-zero (e i r end k q n b .passes))
+
+pub at-end : (r : List Item) (end k q n : ℕ) (b : Beam) → total (unbroken (opticsOf r) b .marks) ≤ n → stateAt r end k b q n ≡ Last r end k q b (unbroken (opticsOf r) b)
+unfolding unbroken stateAt total placeOf
+at-end [] end k q n b h = rw (add-zero k, add-zero q)
+at-end (i ∷ r) end k q n b h = last-surface i r end k q n b _ refl h (λ g. at-end r end (k + 1) _ _ _ g)

@@ -1,0 +1,193 @@
+-- The ways out of start and continue, each at what its promise says. Assumes nothing.
+use Prim.Native.Nat.{ℕ, zero, suc, _+_, _-_, _*_, _≤_, _<_, zero-le}
+use mathlib.Core.Path.{_≡_, refl, sym, _∙_, ap, subst}
+use mathlib.Core.Logic.{_≢_}
+use mathlib.Core.List.{List, [], _∷_}
+use mathlib.Core.Bool.{Bool, true, false, not, _&&_}
+use native.Mathlib.Omega.{arith}
+use lib.ListN.{length}
+use lib.Dec.{eqb, ltb}
+use lib.Ieee.{Float}
+use lib.Ieee.Scale.{finite}
+use borrow.Author.Tests.{eq-eqb, ne-eqb, lt-ltb, le-ltb, ltb-false, not-true}
+use Rattle.numbers.specs.Arithmetic.{_≤₆₄_, if_then_else_, 0f, decimal}
+use Rattle.surfaces.specs.Types.{rayFinite}
+use Rattle.surfaces.specs.declared.types.Ray.{Ray}
+use Rattle.recipe.specs.declared.scan.Checked.{Checked}
+use Rattle.recipe.specs.Scan.{Item, Scan, refused, items, scan, notes, nothing, says, checkOf, itemsIn, sumLimits}
+use Rattle.recipe.proofs.Notes.{notes-number, notes-count}
+use Rattle.recipe.proofs.Records.{limit-bounds}
+use Rattle.recipe.proofs.Scans.{Sound, scan-sound, scan-few}
+use Rattle.trace.specs.declared.state.State.{State}
+use Rattle.trace.specs.declared.run.Answer.{Answer}
+use Rattle.trace.specs.Leg.{width}
+use Rattle.trace.specs.State.{Held, held, advance, beamGood, fitsOf}
+use Rattle.trace.specs.Trace.{Reply, reply, blank, recipeOf, itemsOf, beamOf, firstState, refusedAnswer, refusedReply, admitted, begunOf, startAt, accept, continueOn, continueOf}
+use Rattle.trace.specs.Ready.{Fit, Ready}
+use Rattle.trace.proofs.Fits.{and-l, and-r, fits-fit, few-steps}
+
+-- what a check says of the recipe
+pub data Seen (w : ℕ) (c : Checked) : Scan → Type 0 where
+  seen-bad : {n p : ℕ} → c .number ≡ n → c .place ≡ p → c .number ≢ 1 → Seen w c (refused n p)
+  seen-good : {l : List Item} → c ≡ notes w nothing l → c .number ≡ 1 → c .count ≡ length l → Seen w c (items l)
+
+see-scan : (w : ℕ) (c : Checked) (r : Scan) → Sound r → c ≡ says w nothing r → Seen w c r
+see-scan w c (refused n p) h e = seen-bad (ap (λ (k : Checked). k .number) e) (ap (λ (k : Checked). k .place) e) (λ q. h (sym (ap (λ (k : Checked). k .number) e) ∙ q))
+see-scan w c (items l) h e =
+    seen-good e (ap (λ (k : Checked). k .number) e ∙ notes-number w nothing l) (let q = ap (λ (k : Checked). k .count) e in omega (arith, q, notes-count w nothing l))
+
+pub see : (b : List ℕ) (w : ℕ) (c : Checked) → c ≡ checkOf b 512 w → Seen w c (recipeOf b)
+unfolding checkOf
+see b w c e = see-scan w c (recipeOf b) (scan-sound b 512 0) e
+
+-- an answer and the buffer beside it, by the tests of a start
+module _ (z : List Float) (accept : Answer) where
+  beside : (u v w : Bool)
+      → _≡_ {A = Reply} (record { answer = if not u then refusedAnswer 2 0 else if v then refusedAnswer 4 0 else if w then refusedAnswer 11 0 else accept; buffer = z })
+      (if not u then refusedReply 2 0 z else if v then refusedReply 4 0 z else if w then refusedReply 11 0 z else record { answer = accept; buffer = z })
+  beside false v w = refl
+  beside true true w = refl
+  beside true false true = refl
+  beside true false false = refl
+
+begun : (c : Checked) (r : Scan) → Seen 0 c r → (base : ℕ) (ray : Ray) (index : Float) (z : List Float)
+    → record { answer = begunOf c base ray index (length z); buffer = z } ≡ admitted r base ray index z (λ l. reply 1 0 (firstState (length l) (beamOf ray index)) z)
+unfolding begunOf
+begun c (refused n p) (seen-bad e f g) base ray index z = rw (ne-eqb (c .number) 1 g, e, f)
+begun c (items l) (seen-good e n k) base ray index z =
+    rw (eq-eqb (c .number) 1 n, k)
+    (beside z (record { number = 1; place = 0; state = firstState (length l) (beamOf ray index) }) (rayFinite ray && finite index) (index ≤₆₄ 0f) (ltb (length z) (width * length l)))
+
+pub start-is : (b : List ℕ) (c : Checked) → c ≡ checkOf b 512 0 → (base : ℕ) (ray : Ray) (index : Float) (z y : List Float) (a : Answer) → y ≡ blank z
+    → a ≡ begunOf c base ray index (length y) → record { answer = a; buffer = y } ≡ startAt base b ray index z
+unfolding startAt
+start-is b c e base ray index z y a blanked q = rw (q, blanked) (begun c (recipeOf b) (see b 0 c e) base ray index (blank z))
+
+-- a beam that is good has a finite ray, and an index that is finite and above 0
+index-of : (ray : Ray) (index : Float) → beamGood (beamOf ray index) ≡ true → ((rayFinite ray && finite index) ≡ true) × ((index ≤₆₄ 0f) ≡ false)
+unfolding beamGood
+index-of ray index h =
+    let r = and-l (rayFinite ray) _ (and-l _ (finite index) (and-l _ (not (index ≤₆₄ 0f)) h)) in
+    let i = and-r (rayFinite ray && finite 0f) _ (and-l _ (not (index ≤₆₄ 0f)) h) in
+    (rw (r, i), not-true (index ≤₆₄ 0f) (and-r (rayFinite ray && finite 0f && finite index) _ h))
+
+abbrev IsItems : Scan → Type 0
+IsItems (refused n p) = ⊥
+IsItems (items l) = Unit {0}
+
+pub no-items : {n p : ℕ} {l : List Item} → refused n p ≡ items l → ⊥
+no-items e = subst IsItems (sym e) tt
+
+-- an accepted start
+pub record Admitted (r : Scan) (ray : Ray) (index : Float) (z : List Float) : Type 0 where
+  pub good : r ≡ items (itemsIn r)
+  pub beam : beamGood (beamOf ray index) ≡ true
+  pub room : width * length (itemsIn r) ≤ length z
+
+module _ (base : ℕ) (ray : Ray) (index : Float) (z : List Float) where
+  abbrev finiteStart : Bool
+  finiteStart = rayFinite ray && finite index
+
+  -- the tests of a start, by what they say
+  abbrev tested : Bool → Bool → Bool → Reply → Reply
+  tested u v w accept = if not u then refusedReply 2 0 z else if v then refusedReply 4 0 z else if w then refusedReply 11 0 z else accept
+
+  start-good : finiteStart ≡ true → (index ≤₆₄ 0f) ≡ false → beamGood (beamOf ray index) ≡ true
+  unfolding beamGood decimal finite
+  start-good u v = rw (and-l (rayFinite ray) _ u, and-r (rayFinite ray) _ u, v)
+
+  admits : (l : List Item) (f : Reply) → (u v w : Bool) → finiteStart ≡ u → (index ≤₆₄ 0f) ≡ v → ltb (length z) (width * length l) ≡ w
+      → tested u v w f .answer .number ≡ 1 → Admitted (items l) ray index z
+  unfolding refusedAnswer
+  admits l f false v w a b c h = absurd (omega arith)
+  admits l f true true w a b c h = absurd (omega arith)
+  admits l f true false true a b c h = absurd (omega arith)
+  admits l f true false false a b c h = record { good = refl; beam = start-good a b; room = ltb-false _ _ c }
+
+  pub admitted-by : (r : Scan) → Sound r → (f : List Item → Reply) → admitted r base ray index z f .answer .number ≡ 1 → Admitted r ray index z
+  unfolding refusedAnswer
+  admitted-by (refused n p) s f h = absurd (s h)
+  admitted-by (items l) s f h = admits l (f l) _ _ _ refl refl refl h
+
+  -- what is accepted, and what is refused, whatever an accepted start leads to
+  pub admitted-is : (r : Scan) → Admitted r ray index z → (f : List Item → Reply) → admitted r base ray index z f ≡ f (itemsIn r)
+  unfolding beamGood
+  admitted-is (refused n p) a f = absurd (no-items (a .good))
+  admitted-is (items l) a f =
+      let g = index-of ray index (a .beam) in
+      rw (g .0, g .1, le-ltb (length z) (width * length l) (a .room))
+
+  alike : (u v w : Bool) (f g : Reply) → f .answer .number ≡ 1 → tested u v w f .answer .number ≢ 1 → tested u v w f ≡ tested u v w g
+  alike false v w f g a h = refl
+  alike true true w f g a h = refl
+  alike true false true f g a h = refl
+  alike true false false f g a h = absurd (h a)
+
+  pub refused-alike : (r : Scan) (f g : List Item → Reply) → ((l : List Item) → f l .answer .number ≡ 1) → admitted r base ray index z f .answer .number ≢ 1
+      → admitted r base ray index z f ≡ admitted r base ray index z g
+  refused-alike (refused n p) f g a h = refl
+  refused-alike (items l) f g a h = alike finiteStart (index ≤₆₄ 0f) (ltb (length z) (width * length l)) (f l) (g l) (a l) h
+
+-- continue
+module _ (b : List ℕ) (s : State) (z : List Float) (k : ℕ) where
+  go-bad : (c : Checked) (r : Scan) → Seen (s .number) c r → c .number ≢ 1 → reply (c .number) (c .place) s z ≡ continueOn r (length b) s z k
+  go-bad c (refused n p) (seen-bad e f g) h = rw (e, f)
+  go-bad c (items l) (seen-good e n i) h = absurd (h n)
+
+  go-short : (c : Checked) (r : Scan) → Seen (s .number) c r → c .number ≡ 1 → length z < width * c .count → reply 11 0 s z ≡ continueOn r (length b) s z k
+  go-short c (refused n p) (seen-bad e f g) h i = absurd (g h)
+  go-short c (items l) (seen-good e n m) h i = rw (lt-ltb (length z) (width * length l) (omega arith))
+
+  go-unfit : (c : Checked) (r : Scan) → Seen (s .number) c r → c .number ≡ 1 → width * c .count ≤ length z → fitsOf c (length b) s ≡ false → reply 12 0 s z ≡ continueOn r (length b) s z k
+  go-unfit c (refused n p) (seen-bad e f g) h i q = absurd (g h)
+  go-unfit c (items l) (seen-good e n m) h i q = rw (le-ltb (length z) (width * length l) (omega arith), ← e, q)
+
+  go-run : (c : Checked) (r : Scan) → Seen (s .number) c r → c .number ≡ 1 → width * c .count ≤ length z → fitsOf c (length b) s ≡ true
+      → (h : Held) → h ≡ advance (itemsIn r) k (held s z) → accept h ≡ continueOn r (length b) s z k
+  go-run c (refused n p) (seen-bad e f g) h i q v w = absurd (g h)
+  go-run c (items l) (seen-good e n m) h i q v w = rw (le-ltb (length z) (width * length l) (omega arith), ← e, q) (ap accept w)
+
+  go-ready : (c : Checked) (r : Scan) → Seen (s .number) c r → c .number ≡ 1 → fitsOf c (length b) s ≡ true
+      → (r ≡ items (itemsIn r)) × (c .count ≡ length (itemsIn r)) × (Fit (itemsIn r) (length b) s) × (s .steps ≤ sumLimits (itemsIn r))
+  go-ready c (refused n p) (seen-bad e f g) h q = absurd (g h)
+  go-ready c (items l) (seen-good e n m) h q =
+      let q' : fitsOf (notes (s .number) nothing l) (length b) s ≡ true = rw (← e) q in
+      (refl, m, fits-fit l (length b) s q', few-steps l (length b) s q')
+
+  module _ (c : Checked) (e : c ≡ checkOf b 512 (s .number)) where
+    seen : Seen (s .number) c (recipeOf b)
+    seen = see b (s .number) c e
+
+    pub on-bad : c .number ≢ 1 → reply (c .number) (c .place) s z ≡ continueOf b s z k
+    unfolding continueOf
+    on-bad h = go-bad c (recipeOf b) seen h
+
+    pub on-short : c .number ≡ 1 → length z < width * c .count → reply 11 0 s z ≡ continueOf b s z k
+    unfolding continueOf
+    on-short h i = go-short c (recipeOf b) seen h i
+
+    pub on-unfit : c .number ≡ 1 → width * c .count ≤ length z → fitsOf c (length b) s ≡ false → reply 12 0 s z ≡ continueOf b s z k
+    unfolding continueOf
+    on-unfit h i q = go-unfit c (recipeOf b) seen h i q
+
+    pub on-run : c .number ≡ 1 → width * c .count ≤ length z → fitsOf c (length b) s ≡ true
+        → (h : Held) → h ≡ advance (itemsOf b) k (held s z) → accept h ≡ continueOf b s z k
+    unfolding continueOf
+    on-run h i q v w = go-run c (recipeOf b) seen h i q v w
+
+    pub on-ready : c .number ≡ 1 → width * c .count ≤ length z → fitsOf c (length b) s ≡ true → Ready b (length z) (c .count) s
+    on-ready h i q =
+        let r = go-ready c (recipeOf b) seen h q in
+        record { good = r .0; counted = r .1; fits = i; fit = r .2 }
+
+    pub on-steps : c .number ≡ 1 → fitsOf c (length b) s ≡ true → s .steps ≤ sumLimits (itemsOf b)
+    on-steps h q = go-ready c (recipeOf b) seen h q .3
+
+-- a recipe's limits are few
+sum-few : (l : List Item) → sumLimits l ≤ 35 * length l
+unfolding sumLimits
+sum-few [] = zero-le
+sum-few (i ∷ l) = omega (arith, limit-bounds (i .optic .surface .kind) .1, sum-few l)
+
+pub limits-few : (b : List ℕ) → sumLimits (itemsOf b) ≤ 17920
+limits-few b = omega (arith, sum-few (itemsOf b), scan-few b 512 0)

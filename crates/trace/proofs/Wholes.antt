@@ -1,0 +1,71 @@
+-- A start and all steps at once leave what the unbroken trace does. Assumes nothing.
+use Prim.Native.Nat.{ℕ, _+_, _*_, _≤_, _<_, _^_}
+use mathlib.Core.Path.{_≡_, refl, sym, _∙_, ap, subst}
+use mathlib.Core.Logic.{_≢_}
+use mathlib.Core.List.{List}
+use native.Mathlib.Omega.{arith}
+use native.Mathlib.Nat.{zero-add}
+use lib.ListN.{length, length-replicate}
+use lib.Ieee.{Float}
+use Rattle.numbers.specs.Arithmetic.{0f}
+use Rattle.surfaces.specs.declared.types.Ray.{Ray}
+use Rattle.recipe.specs.declared.scan.Checked.{Checked}
+use Rattle.recipe.specs.Scan.{Item, Scan, refused, items, itemsIn, checkOf, placeOf, sumLimits}
+use Rattle.recipe.proofs.Scans.{scan-sound}
+use Rattle.trace.specs.declared.state.State.{State}
+use Rattle.trace.specs.declared.run.Answer.{Answer}
+use Rattle.trace.specs.Leg.{width}
+use Rattle.trace.specs.Unbroken.{Trace, Mark, unbroken, total, rows, padded}
+use Rattle.trace.specs.State.{Held, held, advance}
+use Rattle.trace.specs.Trace.{Reply, reply, recipeOf, itemsOf, opticsOf, blank, standing, beamOf, firstState, admitted, accept, begunOf, startAt, wholeOf}
+use Rattle.trace.specs.Ready.{Ready}
+use Rattle.trace.specs.Demand3.{stateAt}
+use Rattle.trace.proofs.Closed.{Shows}
+use Rattle.trace.proofs.Standing.{total-limit, finished-all, at-end}
+use Rattle.trace.proofs.Starts.{Seen, seen-bad, seen-good, see, start-is, Admitted, admitted-by, admitted-is, refused-alike, no-items, limits-few}
+use Rattle.trace.proofs.Demand3.{shown, sound}
+
+-- what a check counted
+counted : (c : Checked) (r : Scan) → Seen 0 c r → r ≡ items (itemsIn r) → c .count ≡ length (itemsIn r)
+counted c (refused n p) s g = absurd (no-items g)
+counted c (items l) (seen-good e n k) g = k
+
+module _ (y : List ℕ) (ray : Ray) (index : Float) (z : List Float) (c : Checked) (checked : c ≡ checkOf y 512 0) (w : List Float) (blanked : w ≡ blank z)
+    (a : Answer) (begun : a ≡ begunOf c 0 ray index (length w)) where
+  started : record { answer = a; buffer = w } ≡ startAt 0 y ray index z
+  started = start-is y c checked 0 ray index z w a blanked begun
+
+  pub whole-refused : a .number ≢ 1 → record { answer = a; buffer = w } ≡ wholeOf y ray index z
+  unfolding startAt wholeOf
+  whole-refused h =
+      started ∙ refused-alike 0 ray index (blank z) (recipeOf y) _ _ (λ l. refl) (λ e. h (ap (λ (r : Reply). r .answer .number) started ∙ e))
+
+  module _ (h : a .number ≡ 1) where
+    admission : Admitted (recipeOf y) ray index (blank z)
+    unfolding startAt
+    admission = admitted-by 0 ray index (blank z) (recipeOf y) (scan-sound y 512 0) _ (sym (ap (λ (r : Reply). r .answer .number) started) ∙ h)
+
+    first-is : a .state ≡ firstState (length (itemsOf y)) (beamOf ray index)
+    unfolding startAt
+    first-is = ap (λ (r : Reply). r .answer .state) (started ∙ admitted-is 0 ray index (blank z) (recipeOf y) admission _)
+
+    pub whole-ready : Ready y (length w) (c .count) (a .state) × (a .state .steps < 2 ^ 62)
+    unfolding advance
+    whole-ready =
+        let k = counted c (recipeOf y) (see y 0 c checked) (admission .good) in
+        (rw (first-is, blanked) (record { good = admission .good; counted = k; fits = let r = admission .room in omega arith; fit = sound y ray index z admission 0 .fit }), rw first-is (omega arith))
+
+    abbrev u : Trace
+    u = unbroken (opticsOf (itemsOf y)) (beamOf ray index)
+
+    enough : total (u .marks) ≤ 65535
+    enough = omega (arith, total-limit (itemsOf y) (beamOf ray index), limits-few y)
+
+    pub whole-done : (g : Held) → g ≡ advance (itemsOf y) 65535 (held (a .state) w) → accept g ≡ wholeOf y ray index z
+    unfolding wholeOf
+    whole-done g e =
+        let s = shown y ray index z admission 65535 in
+        let state = s .state ∙ at-end (itemsOf y) (length y) 0 0 65535 (beamOf ray index) enough in
+        let buffer = s .buffer ∙ ap (λ (l : List Mark). padded (length z) (rows l)) (finished-all (u .marks) 65535 enough) in
+        rw (e, first-is, blanked, state, buffer, zero-add (u .hits), zero-add (total (u .marks)), length-replicate (length z) 0f)
+        (sym (rw (admitted-is 0 ray index (blank z) (recipeOf y) admission _)))

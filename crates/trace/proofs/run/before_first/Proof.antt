@@ -1,0 +1,14 @@
+-- What is returned follows from the tests and the calls on the way, in their order. Assumes nothing.
+use mathlib.Core.Path.{refl}
+use lib.Ieee.{ofBits}
+use Rattle.numbers.specs.Arithmetic.{decimal}
+use Rattle.trace.specs.Trace.{refusedAnswer}
+use Rattle.trace.proofs.run.before_first.Statement.{statement}
+use Rattle.trace.proofs.run.before_first.Tie as tie
+
+pub before-first-spec : {M : Type 1} → statement M
+unfolding refusedAnswer decimal ofBits
+before-first-spec =
+    tie.close
+    (tie.spec
+    (λ c. refl))

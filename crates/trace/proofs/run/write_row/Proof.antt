@@ -1,0 +1,43 @@
+-- What is left to write is the rest of the values. Assumes nothing.
+use Prim.Native.Nat.{ℕ, suc, _+_, _-_, _*_, _≤_}
+use mathlib.Core.Path.{_≡_, refl, sym, _∙_}
+use native.Mathlib.Nat.{add-zero}
+use native.Mathlib.Omega.{arith}
+use borrow.Author.Needs.{needs}
+use lib.ListN.{length, drop, length-set}
+use lib.Seq.{sets}
+use Rattle.trace.specs.Leg.{width}
+use Rattle.trace.proofs.Lists.{sets-turn, sets-end}
+use Rattle.trace.proofs.run.write_row.Statement.{statement}
+use Rattle.trace.proofs.run.write_row.Tie as tie
+
+abbrev Inv-loop : tie.InvT-loop
+Inv-loop buf₀ number values at i₀ buf i = (i ≤ width) × (length buf ≡ length buf₀) × (sets buf₀ (width * number) values ≡ sets buf (width * number + i) (drop i values))
+
+abbrev μ-loop : tie.MeasureT-loop
+μ-loop buf₀ number values at i₀ buf i = width - i
+
+loop-again : tie.Need-loop-again Inv-loop μ-loop
+loop-again c = (omega arith, simp length-set (omega arith), c .before .loop .inv .2 ∙ sets-turn (c .before .loop .buf) (c .before .before .args .t3) (width * c .before .before .args .number) (c .before .loop .i) _ (search needs))
+
+returns : tie.Need-returns Inv-loop μ-loop
+returns c = sym (c .before .loop .inv .2 ∙ sets-end (c .before .loop .buf) (c .before .before .args .t3) (width * c .before .before .args .number) (c .before .loop .i) (search needs))
+
+pub write-row-spec : {M : Type 1} → statement M
+write-row-spec =
+    tie.close
+    (tie.spec
+    Inv-loop
+    μ-loop
+    (λ c. search needs)
+    (λ c. (omega arith, refl, rw (add-zero _)))
+    (λ c. search needs)
+    (λ c. search needs)
+    (λ c. omega arith)
+    (λ c. search needs)
+    (λ c. omega arith)
+    (λ c. omega arith)
+    (λ c. omega arith)
+    loop-again
+    (λ c. search needs)
+    returns)

@@ -1,0 +1,62 @@
+-- Demand 3. Take one recipe, one accepted start, one result buffer that nobody else writes, and each call given the state that the last returned. However the
+-- step allowances are chosen, what stands after every call is told here by the unbroken trace alone. Definitions only.
+use Prim.Native.Nat.{ℕ, suc, _+_, _-_, _≤_, _<_, min}
+use mathlib.Core.Path.{_≡_}
+use mathlib.Core.List.{List, [], _∷_}
+use lib.ListN.{length, take}
+use lib.Dec.{leb, ltb}
+use lib.Ieee.{Float}
+use Rattle.numbers.specs.Arithmetic.{if_then_else_, 0f}
+use Rattle.surfaces.specs.Told.{done}
+use Rattle.surfaces.specs.Surface.{surfaceEnd, chain}
+use Rattle.surfaces.specs.declared.types.Ray.{Ray}
+use Rattle.recipe.specs.Scan.{Item}
+use Rattle.trace.specs.declared.leg.Beam.{Beam}
+use Rattle.trace.specs.declared.state.State.{State}
+use Rattle.trace.specs.Leg.{legOf, beamAfter}
+use Rattle.trace.specs.Unbroken.{Mark, Trace, unbroken, total, finished, rows, padded}
+use Rattle.trace.specs.Trace.{Reply, recipeOf, itemsOf, opticsOf, beamOf, standing, startOf, continueOf}
+
+-- a row of calls, one for each allowance
+unfoldable pub calls : List ℕ → List ℕ → Reply → Reply
+calls b [] r = r
+calls b (a ∷ l) r = calls b l (continueOf b (r .answer .state) (r .buffer) a)
+
+unfoldable pub sum : List ℕ → ℕ
+sum [] = 0
+sum (a ∷ l) = a + sum l
+
+-- The state after n more steps, before surface k of which the rest is l and which end at `end`: at the end of the surface that n reaches, or in its middle, after n
+-- passes of its own and at the t that these have come to.
+unfoldable pub stateAt : List Item → ℕ → ℕ → Beam → ℕ → ℕ → State
+stateAt [] end k b steps n = standing k end b steps 1
+stateAt (i ∷ l) end k b steps n =
+    let o = i .optic in
+    let e = surfaceEnd (o .surface) (b .ray) in
+    let x = legOf o b (e .answer) in
+    if leb (e .passes) n then
+    (if done x then stateAt l end (k + 1) (beamAfter o b (x .value)) (steps + e .passes) (n - e .passes) else
+    standing k (i .at) b (steps + e .passes) (x .line .number))
+    else
+    record { number = k; place = i .at; passes = n; t = chain (o .surface) (b .ray) n 0 0f .answer .value .t; beam = b; steps = steps + n; outcome = 0 }
+
+-- the unbroken trace of a recipe
+unfoldable pub traceOf : List ℕ → Ray → Float → Trace
+traceOf b ray index = unbroken (opticsOf (itemsOf b)) (beamOf ray index)
+
+-- What stands after calls that were allowed n steps in all.
+pub record Kept (b : List ℕ) (ray : Ray) (index : Float) (size n : ℕ) (r : Reply) : Type 0 where
+  -- the call was accepted
+  pub accepted : r .answer .number ≡ 1
+  pub place : r .answer .place ≡ 0
+  -- the finished surfaces' records equal those of the unbroken trace, and all other numbers are +0.0
+  pub buffer : r .buffer ≡ padded size (rows (finished n (traceOf b ray index .marks)))
+  -- exactly those surfaces are finished whose steps, added up from the first, are at most n
+  pub exactly : (k : ℕ) → k < length (traceOf b ray index .marks) → ltb k (length (finished n (traceOf b ray index .marks))) ≡ leb (total (take (suc k) (traceOf b ray index .marks))) n
+  -- the trace has gone as many steps as were allowed, or has ended
+  pub steps : r .answer .state .steps ≡ min n (total (traceOf b ray index .marks))
+  -- the state is the one after that many steps
+  pub state : r .answer .state ≡ stateAt (itemsOf b) (length b) 0 (beamOf ray index) 0 n
+  -- once the steps suffice it has ended, as the unbroken trace does
+  pub outcome : r .answer .state .outcome ≡ (if leb (total (traceOf b ray index .marks)) n then traceOf b ray index .outcome else 0)
+  pub ended : total (traceOf b ray index .marks) ≤ n → (r .answer .state .beam ≡ traceOf b ray index .beam) × (r .answer .state .number ≡ traceOf b ray index .hits)

@@ -1,0 +1,6 @@
+pub mod Leg
+pub mod Unbroken
+pub mod State
+pub mod Trace
+pub mod Ready
+pub mod Demand3

@@ -1,0 +1,248 @@
+// Start and continue.
+ghost use mathlib.Core.Path.{_≡_};
+ghost use Prim.Native.Nat.{_+_, _*_, _≤_, _<_, _^_};
+ghost use lib.ListN.{length};
+ghost use lib.Seq.{sets};
+ghost use Rattle.surfaces.specs.Told.{toldCrossing};
+ghost use Rattle.trace.specs.Leg.{width};
+ghost use Rattle.trace.specs.State.{held, surfaceLeft, advance};
+ghost use Rattle.trace.specs.Trace.{Reply, blank, standing, itemsOf, refusedAnswer, begunOf, startOf, continueOf, wholeOf};
+ghost use Rattle.trace.specs.Ready.{Ready};
+use crate::leg::Beam;
+use crate::leg::onward;
+use crate::leg::row;
+use crate::state::State;
+use crate::state::outcome_at;
+use numbers::is_finite;
+use recipe::Checked;
+use recipe::Record;
+use recipe::check;
+use recipe::read_record;
+use surfaces::Crossing;
+use surfaces::Passed;
+use surfaces::Ray;
+use surfaces::Vec3;
+use surfaces::pass;
+use surfaces::ray_finite;
+
+// How many records a recipe may have, and how many numbers a result record has.
+const MOST: usize = 512;
+
+const WIDTH: usize = 13;
+
+// 1 or the refusal, the refused record's place, and the state.
+pub struct Answer {
+    pub number: u8,
+    pub place: usize,
+    pub state: State,
+}
+
+// The whole buffer becomes +0.0.
+fn blank_out(buf: &mut [f64])
+    ensures { λ _. ⌜ now (buf .exit) ≡ blank (now (buf .entry)) ⌝ }
+{
+    let mut i = 0;
+    while i < buf.len() {
+        buf[i] = 0.0;
+        i += 1;
+    }
+}
+
+// The record of the surface of a number.
+fn write_row(buf: &mut [f64], number: usize, values: [f64; 13])
+    requires { ⌜ width * number + width ≤ length (now buf) ⌝ }
+    ensures { λ _. ⌜ now (buf .exit) ≡ sets (now (buf .entry)) (width * number) values ⌝ }
+{
+    let at = WIDTH * number;
+    let mut i = 0;
+    while i < WIDTH {
+        buf[at + i] = values[i];
+        i += 1;
+    }
+}
+
+// A surface's end: its record is written, and the state moves on.
+fn leave(
+    s: State,
+    buf: &mut [f64],
+    read: Record,
+    count: usize,
+    x: Crossing,
+    passes: u16,
+    steps: usize,
+) -> State
+    requires { ⌜ (width * s .number + width ≤ length (now buf)) × (s .number + 1 < 2 ^ 64) ⌝ }
+    ensures { λ r. ⌜ held r (now (buf .exit)) ≡ surfaceLeft (held s (now (buf .entry))) (read .next) count (read .optic) (toldCrossing x) passes steps ⌝ }
+{
+    let o = read.optic;
+    let beam = s.beam;
+    let e = onward(o, beam, x);
+    write_row(buf, s.number, row(e, passes));
+    s.after(read.next, count, o, e, steps)
+}
+
+// At most `allowed` steps, and none once the trace has ended.
+fn walk(state: State, recipe: &[u8], buf: &mut [f64], count: usize, allowed: u16) -> State
+    requires { ⌜ (Ready (now recipe) (length (now buf)) count state) × (state .steps < 2 ^ 62) ⌝ }
+    ensures { λ r. ⌜ held r (now (buf .exit)) ≡ advance (itemsOf (now (recipe .entry))) allowed (held state (now (buf .entry))) ⌝ }
+{
+    let mut s = state;
+    let mut left = allowed;
+    'surfaces: while left > 0 {
+        if s.outcome != 0 {
+            break 'surfaces;
+        }
+        let read = read_record(recipe, s.place);
+        let optic = read.optic;
+        let surface = optic.surface;
+        let beam = s.beam;
+        let ray = beam.ray;
+        let mut made = s.passes;
+        let mut t = s.t;
+        let mut steps = s.steps;
+        let crossing = loop {
+            steps += 1;
+            left -= 1;
+            match pass(surface, ray, made, t) {
+                Passed::Again(u) => {
+                    made += 1;
+                    t = u;
+                    if left == 0 {
+                        s = s.paused(made, t, steps);
+                        break 'surfaces;
+                    }
+                }
+                Passed::Hit(l) => {
+                    break Crossing::At(l);
+                }
+                Passed::Refused(e) => {
+                    break Crossing::Refused(e);
+                }
+            }
+        };
+        s = leave(s, buf, read, count, crossing, made + 1, steps);
+    }
+    s
+}
+
+fn refused(number: u8, place: usize) -> Answer
+    ensures { λ r. ⌜ r ≡ refusedAnswer number place ⌝ }
+{
+    let zeros = Vec3 {
+        x: 0.0,
+        y: 0.0,
+        z: 0.0,
+    };
+    let ray = Ray {
+        origin: zeros,
+        direction: zeros,
+    };
+    let beam = Beam {
+        ray,
+        index: 0.0,
+        path: 0.0,
+    };
+    Answer {
+        number,
+        place,
+        state: before_first(beam, number),
+    }
+}
+
+// Before the first surface.
+fn before_first(beam: Beam, outcome: u8) -> State
+    ensures { λ r. ⌜ r ≡ standing 0 0 beam 0 outcome ⌝ }
+{
+    State {
+        number: 0,
+        place: 0,
+        passes: 0,
+        t: 0.0,
+        beam,
+        steps: 0,
+        outcome,
+    }
+}
+
+// What start answers, by what a check says of the recipe, whose places count from `base`, and how much room there is.
+pub(crate) fn begin(c: Checked, base: usize, ray: Ray, index: f64, room: usize) -> Answer
+    requires { ⌜ base + c .place < 2 ^ 64 ⌝ }
+    ensures { λ r. ⌜ r ≡ begunOf c base ray index room ⌝ }
+{
+    if c.number != 1 {
+        return refused(c.number, base + c.place);
+    }
+    if !(ray_finite(ray) & is_finite(index)) {
+        return refused(2, 0);
+    }
+    if index <= 0.0 {
+        return refused(4, 0);
+    }
+    if room / WIDTH < c.count {
+        return refused(11, 0);
+    }
+    let beam = Beam {
+        ray,
+        index,
+        path: 0.0,
+    };
+    Answer {
+        number: 1,
+        place: 0,
+        state: before_first(beam, outcome_at(0, c.count)),
+    }
+}
+
+pub fn start(recipe: &[u8], ray: Ray, index: f64, buf: &mut [f64]) -> Answer
+    ensures { λ r. ⌜ record { answer = r; buffer = now (buf .exit) } ≡ startOf (now (recipe .entry)) ray index (now (buf .entry)) ⌝ }
+{
+    blank_out(buf);
+    begin(check(recipe, MOST, 0), 0, ray, index, buf.len())
+}
+
+// Start, then all steps at once.
+pub fn whole(recipe: &[u8], ray: Ray, index: f64, buf: &mut [f64]) -> Answer
+    ensures { λ r. ⌜ record { answer = r; buffer = now (buf .exit) } ≡ wholeOf (now (recipe .entry)) ray index (now (buf .entry)) ⌝ }
+{
+    blank_out(buf);
+    let c = check(recipe, MOST, 0);
+    let a = begin(c, 0, ray, index, buf.len());
+    if a.number != 1 {
+        return a;
+    }
+    let s = a.state;
+    Answer {
+        number: 1,
+        place: 0,
+        state: walk(s, recipe, buf, c.count, u16::MAX),
+    }
+}
+
+impl State {
+    fn kept(self, number: u8, place: usize) -> Answer
+        ensures { λ r. ⌜ r ≡ record { number = number; place = place; state = self } ⌝ }
+    {
+        Answer {
+            number,
+            place,
+            state: self,
+        }
+    }
+
+    // Document 01's continue, which is a word of the language.
+    pub fn resume(self, recipe: &[u8], buf: &mut [f64], allowed: u16) -> Answer
+        ensures { λ r. ⌜ record { answer = r; buffer = now (buf .exit) } ≡ continueOf (now (recipe .entry)) self (now (buf .entry)) allowed ⌝ }
+    {
+        let c = check(recipe, MOST, self.number);
+        if c.number != 1 {
+            return self.kept(c.number, c.place);
+        }
+        if buf.len() / WIDTH < c.count {
+            return self.kept(11, 0);
+        }
+        if !self.fits(c, recipe.len()) {
+            return self.kept(12, 0);
+        }
+        walk(self, recipe, buf, c.count, allowed).kept(1, 0)
+    }
+}

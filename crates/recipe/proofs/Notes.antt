@@ -44,3 +44,8 @@ notes-found w c (i ∷ l) zero e h =
     let later = notes-kept w (note w c i) l (omega arith) in
     (later .0 ∙ rw here, later .1 ∙ rw here)
 notes-found w c (i ∷ l) (suc k) e h = notes-found w (note w c i) l k (omega arith) (omega arith)
+
+pub notes-place : (w : ℕ) (c : Checked) (l : List Item) → notes w c l .place ≡ c .place
+unfolding notes
+notes-place w c [] = refl
+notes-place w c (i ∷ l) = notes-place w (note w c i) l

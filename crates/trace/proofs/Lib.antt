@@ -10,3 +10,4 @@ pub mod Walks
 pub mod Starts
 pub mod Demand3
 pub mod Wholes
+pub mod Files

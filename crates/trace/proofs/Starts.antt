@@ -93,7 +93,7 @@ module _ (base : ℕ) (ray : Ray) (index : Float) (z : List Float) where
   tested u v w accept = if not u then refusedReply 2 0 z else if v then refusedReply 4 0 z else if w then refusedReply 11 0 z else accept
 
   start-good : finiteStart ≡ true → (index ≤₆₄ 0f) ≡ false → beamGood (beamOf ray index) ≡ true
-  unfolding beamGood decimal finite
+  unfolding beamGood decimal
   start-good u v = rw (and-l (rayFinite ray) _ u, and-r (rayFinite ray) _ u, v)
 
   admits : (l : List Item) (f : Reply) → (u v w : Bool) → finiteStart ≡ u → (index ≤₆₄ 0f) ≡ v → ltb (length z) (width * length l) ≡ w

@@ -26,7 +26,7 @@ use surfaces::pass;
 use surfaces::ray_finite;
 
 // How many records a recipe may have, and how many numbers a result record has.
-const MOST: usize = 512;
+pub(crate) const MOST: usize = 512;
 
 const WIDTH: usize = 13;
 
@@ -38,7 +38,7 @@ pub struct Answer {
 }
 
 // The whole buffer becomes +0.0.
-fn blank_out(buf: &mut [f64])
+pub(crate) fn blank_out(buf: &mut [f64])
     ensures { λ _. ⌜ now (buf .exit) ≡ blank (now (buf .entry)) ⌝ }
 {
     let mut i = 0;
@@ -125,7 +125,7 @@ fn walk(state: State, recipe: &[u8], buf: &mut [f64], count: usize, allowed: u16
     s
 }
 
-fn refused(number: u8, place: usize) -> Answer
+pub(crate) fn refused(number: u8, place: usize) -> Answer
     ensures { λ r. ⌜ r ≡ refusedAnswer number place ⌝ }
 {
     let zeros = Vec3 {

@@ -1,0 +1,49 @@
+-- A program's file: the record of the ray, and the start on the rest. Assumes nothing.
+use Prim.Native.Nat.{ℕ, _+_, _-_, _≤_, _<_, zero-le}
+use mathlib.Core.Path.{_≡_, refl, sym, _∙_, ap}
+use mathlib.Core.Logic.{_≢_}
+use mathlib.Core.List.{List}
+use mathlib.Core.Bool.{Bool, true, false, not, _&&_}
+use native.Mathlib.Omega.{arith}
+use lib.ListN.{length, drop}
+use lib.Dec.{eqb, leb}
+use lib.Ieee.{Float}
+use borrow.Author.Tests.{eq-eqb, ne-eqb, leb-true}
+use Rattle.numbers.specs.Arithmetic.{if_then_else_, 0f}
+use Rattle.recipe.specs.declared.scan.Checked.{Checked}
+use Rattle.recipe.specs.declared.source.Source.{Source}
+use Rattle.recipe.specs.Record.{lengthAt, kindAt}
+use Rattle.recipe.specs.Scan.{Scan, refused, items, notes, nothing, scan, says, checkOf}
+use Rattle.recipe.specs.Source.{isSource, sourceOf}
+use Rattle.recipe.proofs.Notes.{notes-place}
+use Rattle.recipe.proofs.Scans.{scan-place}
+use Rattle.trace.specs.declared.run.Answer.{Answer}
+use Rattle.trace.specs.Trace.{blank, begunOf, startFileOf, refusedAnswer}
+use Rattle.trace.proofs.Fits.{and-l}
+use Rattle.trace.proofs.Starts.{start-is}
+
+pub source-long : (f : List ℕ) → sourceOf f .number ≡ 1 → 60 ≤ length f
+unfolding sourceOf isSource
+source-long f h = by _ _ refl (isSource f) refl h
+  where
+    by : (x w : Source) → w .number ≡ 10 → (t : Bool) → isSource f ≡ t → (if t then x else w) .number ≡ 1 → 60 ≤ length f
+    by x w n true e k = leb-true 60 (length f) (and-l _ (eqb (lengthAt f 0) 58) (and-l _ (eqb (kindAt f 0) 0) e))
+    by x w n false e k = absurd (omega (arith, n, k))
+
+-- a check's place is within the recipe
+pub place-within : (b : List ℕ) (w : ℕ) → checkOf b 512 w .place ≤ length b
+unfolding checkOf
+place-within b w = by (scan b 512 0) refl
+  where
+    by : (r : Scan) → scan b 512 0 ≡ r → says w nothing r .place ≤ length b
+    by (refused n p) e = let h = scan-place b 512 0 e in omega arith
+    by (items l) e = omega (arith, notes-place w nothing l)
+
+module _ (f : List ℕ) (z y : List Float) (blanked : y ≡ blank z) (s : Source) (read : s ≡ sourceOf f) (a : Answer) where
+  pub no-source : s .number ≢ 1 → a ≡ refusedAnswer 10 0 → record { answer = a; buffer = y } ≡ startFileOf f z
+  unfolding startFileOf
+  no-source h e = rw (← read, ne-eqb (s .number) 1 h, e, blanked)
+
+  pub with-source : s .number ≡ 1 → (c : Checked) → c ≡ checkOf (drop 60 f) 512 0 → a ≡ begunOf c 60 (s .ray) (s .index) (length y) → record { answer = a; buffer = y } ≡ startFileOf f z
+  unfolding startFileOf
+  with-source h c checked begun = rw (← read, eq-eqb (s .number) 1 h) (start-is (drop 60 f) c checked 60 (s .ray) (s .index) z y a blanked begun)

@@ -18,7 +18,7 @@ use Rattle.recipe.proofs.Scans.{scan-full, scan-record}
 
 -- what is read of the first n bytes alone
 module _ (b : List ℕ) (n : ℕ) where
-  u16-take : (at : ℕ) → at + 2 ≤ n → u16At (take n b) at ≡ u16At b at
+  pub u16-take : (at : ℕ) → at + 2 ≤ n → u16At (take n b) at ≡ u16At b at
   unfolding u16At
   u16-take at h = rw (getD-take n b at 0 (omega arith), getD-take n b (at + 1) 0 (omega arith))
 
@@ -31,7 +31,7 @@ module _ (b : List ℕ) (n : ℕ) where
   numbers-take at zero h = refl
   numbers-take at (suc k) h = rw (number-take at (omega arith), numbers-take (at + 8) k (omega arith))
 
-  slot-take : (at i : ℕ) → at + 12 + 8 * i ≤ n → slotAt (take n b) at i ≡ slotAt b at i
+  pub slot-take : (at i : ℕ) → at + 12 + 8 * i ≤ n → slotAt (take n b) at i ≡ slotAt b at i
   unfolding slotAt
   slot-take at i h = number-take (at + 4 + 8 * i) (omega arith)
 

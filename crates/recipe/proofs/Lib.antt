@@ -7,3 +7,4 @@ pub mod Chain
 pub mod Notes
 pub mod Checks
 pub mod Length
+pub mod Sources

@@ -1,6 +1,7 @@
 -- Demand 3: however the allowances are chosen, what stands after every call is the unbroken trace's. Assumes nothing.
 use Prim.Native.Nat.{ℕ, zero, suc, _+_, _-_, _*_, _≤_, _<_, min, zero-le}
 use mathlib.Core.Path.{_≡_, refl, sym, _∙_, ap, subst}
+use mathlib.Core.Logic.{_≢_}
 use mathlib.Core.List.{List, [], _∷_, _++_}
 use mathlib.Core.Bool.{Bool, true, false, not}
 use native.Mathlib.Omega.{arith}
@@ -10,7 +11,10 @@ use lib.Dec.{eqb, leb, ltb}
 use lib.Ieee.{Float}
 use borrow.Author.Tests.{le-leb, le-ltb, eqb-true, eqb-false, ne-eqb}
 use Rattle.numbers.specs.Arithmetic.{if_then_else_, 0f}
+use Rattle.surfaces.specs.Surface.{limitOf}
 use Rattle.surfaces.specs.declared.types.Ray.{Ray}
+use Rattle.surfaces.specs.declared.surface.Kind.the-variants.{Conic, Even, Biconic, Toroid}
+use Rattle.surfaces.proofs.Choice.{either}
 use Rattle.recipe.specs.Scan.{Item, Scan, items, notes, nothing, sumLimits}
 use Rattle.recipe.proofs.Chain.{Chain, place-first}
 use Rattle.recipe.proofs.Scans.{scan-sound}
@@ -22,7 +26,7 @@ use Rattle.trace.specs.Unbroken.{Trace, unbroken, total, finished, rows,
 use Rattle.trace.specs.State.{Held, held, move, advance, beamGood, fitsOf}
 use Rattle.trace.specs.Trace.{Reply, recipeOf, itemsOf, opticsOf, blank, standing, beamOf, firstState, accept, startAt, startOf, continueOn, continueOf}
 use Rattle.trace.specs.Ready.{Stands, walking, arrived, Fit}
-use Rattle.trace.specs.Demand3.{calls, sum, stateAt, traceOf, Kept}
+use Rattle.trace.specs.Demand3.{calls, sum, stateAt, traceOf, Kept, called, Demand3}
 use Rattle.trace.proofs.Steps.{advance-add, move-ended}
 use Rattle.trace.proofs.Closed.{Shows, startOutcome, closed}
 use Rattle.trace.proofs.Standing.{reached, exactly, total-limit}
@@ -134,5 +138,34 @@ module _ (y : List ℕ) (ray : Ray) (index : Float) (z : List Float) (h : startO
       ap (λ (r : Reply). calls y ks r) started ∙ row y ray index z admitted-start ks 0
       ∙ ap (λ (n : ℕ). accept (advance (itemsOf y) n (held (firstState (length (itemsOf y)) (beamOf ray index)) (blank z)))) (zero-add (sum ks))
 
-  pub any-allowances : (ks : List ℕ) → Kept y ray index (length z) (sum ks) (calls y ks (startOf y ray index z))
+  any-allowances : (ks : List ℕ) → Kept y ray index (length z) (sum ks) (called y ray index z ks)
   any-allowances ks = subst (λ (r : Reply). Kept y ray index (length z) (sum ks) r) (sym (after-calls ks)) (kept y ray index z admitted-start (sum ks))
+
+  all-limits : (ks : List ℕ) → sumLimits (itemsOf y) ≤ sum ks → total (traceOf y ray index .marks) ≤ sum ks
+  unfolding traceOf
+  all-limits ks h = omega (arith, total-limit (itemsOf y) (beamOf ray index))
+
+  has-ended : (ks : List ℕ) → sumLimits (itemsOf y) ≤ sum ks
+      → (called y ray index z ks .answer .state .outcome ≡ traceOf y ray index .outcome) × (called y ray index z ks .answer .state .beam ≡ traceOf y ray index .beam)
+  has-ended ks h =
+      let k = any-allowances ks in
+      let t = all-limits ks h in
+      (k .outcome ∙ rw (le-leb (total (traceOf y ray index .marks)) (sum ks) t), k .ended t .0)
+
+  never-12 : (ks : List ℕ) (w : List Float) (n : ℕ) → continueOf y (called y ray index z ks .answer .state) w n .answer .number ≢ 12
+  unfolding continueOf
+  never-12 ks w n =
+      rw (after-calls ks, admitted-start .good, genuine-fits y ray index z admitted-start (sum ks))
+      (either (λ (r : Reply). r .answer .number ≢ 12) (ltb (length w) (width * length (itemsOf y))) _ _ (λ e. omega arith) (λ e. omega arith))
+
+kind-limits : (c k cy ky : Float) → (limitOf (Conic c k) ≡ 1) × (limitOf (Even c k) ≡ 25) × (limitOf (Biconic c k cy ky) ≡ 35) × (limitOf (Toroid c k cy) ≡ 35)
+unfolding limitOf
+kind-limits c k cy ky = (refl, refl, refl, refl)
+
+pub demand-3 : Demand3
+demand-3 = record {
+  keeps = λ b ray index z ks h. any-allowances b ray index z h ks;
+  ends = λ b ray index z ks h l. has-ended b ray index z h ks l;
+  limits = kind-limits;
+  fits = λ b ray index z ks h y n. never-12 b ray index z h ks y n;
+}

@@ -11,3 +11,5 @@ pub mod Starts
 pub mod Demand3
 pub mod Wholes
 pub mod Files
+pub mod Long
+pub mod Example

@@ -2,15 +2,17 @@
 -- step allowances are chosen, what stands after every call is told here by the unbroken trace alone. Definitions only.
 use Prim.Native.Nat.{ℕ, suc, _+_, _-_, _≤_, _<_, min}
 use mathlib.Core.Path.{_≡_}
+use mathlib.Core.Logic.{_≢_}
 use mathlib.Core.List.{List, [], _∷_}
 use lib.ListN.{length, take}
 use lib.Dec.{leb, ltb}
 use lib.Ieee.{Float}
 use Rattle.numbers.specs.Arithmetic.{if_then_else_, 0f}
 use Rattle.surfaces.specs.Told.{done}
-use Rattle.surfaces.specs.Surface.{surfaceEnd, chain}
+use Rattle.surfaces.specs.Surface.{surfaceEnd, limitOf, chain}
 use Rattle.surfaces.specs.declared.types.Ray.{Ray}
-use Rattle.recipe.specs.Scan.{Item}
+use Rattle.surfaces.specs.declared.surface.Kind.the-variants.{Conic, Even, Biconic, Toroid}
+use Rattle.recipe.specs.Scan.{Item, sumLimits}
 use Rattle.trace.specs.declared.leg.Beam.{Beam}
 use Rattle.trace.specs.declared.state.State.{State}
 use Rattle.trace.specs.Leg.{legOf, beamAfter}
@@ -60,3 +62,23 @@ pub record Kept (b : List ℕ) (ray : Ray) (index : Float) (size n : ℕ) (r : R
   -- once the steps suffice it has ended, as the unbroken trace does
   pub outcome : r .answer .state .outcome ≡ (if leb (total (traceOf b ray index .marks)) n then traceOf b ray index .outcome else 0)
   pub ended : total (traceOf b ray index .marks) ≤ n → (r .answer .state .beam ≡ traceOf b ray index .beam) × (r .answer .state .number ≡ traceOf b ray index .hits)
+
+-- one recipe, one accepted start, and any allowances
+abbrev pub Accepted : List ℕ → Ray → Float → List Float → Type 0
+Accepted b ray index z = startOf b ray index z .answer .number ≡ 1
+
+abbrev pub called : List ℕ → Ray → Float → List Float → List ℕ → Reply
+called b ray index z allowances = calls b allowances (startOf b ray index z)
+
+pub record Demand3 : Type 0 where
+  pub keeps : (b : List ℕ) (ray : Ray) (index : Float) (z : List Float) (allowances : List ℕ) → Accepted b ray index z
+      → Kept b ray index (length z) (sum allowances) (called b ray index z allowances)
+  -- it has ended, with the unbroken trace's outcome, ray, index and path, once the allowances add up to the surfaces' limits
+  pub ends : (b : List ℕ) (ray : Ray) (index : Float) (z : List Float) (allowances : List ℕ) → Accepted b ray index z → sumLimits (itemsOf b) ≤ sum allowances
+      → (called b ray index z allowances .answer .state .outcome ≡ traceOf b ray index .outcome)
+      × (called b ray index z allowances .answer .state .beam ≡ traceOf b ray index .beam)
+  -- which are 1 for each conic, 25 for each even asphere, 35 for each biconic or toroid
+  pub limits : (c k cy ky : Float) → (limitOf (Conic c k) ≡ 1) × (limitOf (Even c k) ≡ 25) × (limitOf (Biconic c k cy ky) ≡ 35) × (limitOf (Toroid c k cy) ≡ 35)
+  -- a state that a genuine run returns is never refused with 12, whatever the buffer
+  pub fits : (b : List ℕ) (ray : Ray) (index : Float) (z : List Float) (allowances : List ℕ) → Accepted b ray index z → (y : List Float) (n : ℕ)
+      → continueOf b (called b ray index z allowances .answer .state) y n .answer .number ≢ 12

@@ -4,3 +4,5 @@ pub mod State
 pub mod Trace
 pub mod Ready
 pub mod Demand3
+pub mod Long
+pub mod Example

@@ -1,0 +1,57 @@
+-- A recipe that is too long is refused by its first bytes. Assumes nothing.
+use Prim.Native.Nat.{ℕ, zero, suc, _+_, _-_, _≤_, _<_}
+use mathlib.Core.Path.{_≡_, refl, sym, _∙_, ap, subst}
+use mathlib.Core.Logic.{_≢_}
+use mathlib.Core.List.{List, [], _∷_}
+use mathlib.Core.Bool.{Bool, true, false, not}
+use native.Mathlib.Nat.{zero-add}
+use native.Mathlib.Omega.{arith}
+use lib.ListN.{length, take, drop, length-drop}
+use lib.Seq.{take-nil}
+use lib.Dec.{eqb}
+use lib.Ieee.{Float}
+use Rattle.numbers.specs.Arithmetic.{if_then_else_}
+use Rattle.surfaces.specs.declared.types.Ray.{Ray}
+use Rattle.recipe.specs.Scan.{Scan, refused, items, scan}
+use Rattle.recipe.specs.Length.{RefusedAlike}
+use Rattle.recipe.specs.Source.{sourceOf}
+use Rattle.recipe.proofs.Scans.{Sound, scan-sound}
+use Rattle.recipe.proofs.Length.{too-long}
+use Rattle.recipe.proofs.Sources.{source-take}
+use Rattle.trace.specs.Trace.{recipeOf, blank, refusedAnswer, startAt, startOf, startFileOf}
+use Rattle.trace.specs.Long.{Long}
+
+module _ (b : List ℕ) (long : 55296 < length b) (base : ℕ) (ray : Ray) (index : Float) (z : List Float) where
+  alike : startAt base b ray index z ≡ startAt base (take 55297 b) ray index z
+  unfolding startAt
+  alike = let r = too-long b 512 long in rw (r .one, r .other)
+
+  off : startAt base b ray index z .answer .number ≢ 1
+  unfolding startAt refusedAnswer
+  off = let r = too-long b 512 long in rw (r .one) (subst Sound (r .one) (scan-sound b 512 0))
+
+drop-take : (k n : ℕ) (l : List ℕ) → drop k (take (k + n) l) ≡ take n (drop k l)
+drop-take zero n l = rw (zero-add n)
+drop-take (suc k) n [] = rw (take-nil (suc k + n), take-nil n)
+drop-take (suc k) n (x ∷ l) = let e : suc k + n ≡ suc (k + n) = omega arith in rw e (drop-take k n l)
+
+module _ (f : List ℕ) (z : List Float) (long : 55356 < length f) where
+  rest : 55296 < length (drop 60 f)
+  rest = let e = length-drop 60 f in omega arith
+
+  file-alike : startFileOf f z ≡ startFileOf (take 55357 f) z
+  unfolding startFileOf
+  file-alike =
+      rw (source-take f 55357 (omega arith) (omega arith), drop-take 60 55297 f, alike (drop 60 f) rest 60 (sourceOf f .ray) (sourceOf f .index) z)
+
+  file-off : startFileOf f z .answer .number ≢ 1
+  unfolding startFileOf refusedAnswer
+  file-off = by (eqb (sourceOf f .number) 1)
+    where
+      by : (t : Bool) → (if not t then record { answer = refusedAnswer 10 0; buffer = blank z } else startAt 60 (drop 60 f) (sourceOf f .ray) (sourceOf f .index) z) .answer .number ≢ 1
+      by false = λ e. omega arith
+      by true = off (drop 60 f) rest 60 (sourceOf f .ray) (sourceOf f .index) z
+
+pub long : Long
+unfolding startOf
+long = record { recipe = λ b ray index z h. (alike b h 0 ray index z, off b h 0 ray index z); file = λ f z h. (file-alike f z h, file-off f z h) }

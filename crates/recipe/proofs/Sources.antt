@@ -1,12 +1,10 @@
 -- The record of the ray is read from the first 60 bytes. Assumes nothing.
-use Prim.Native.Nat.{ℕ, _+_, _≤_}
+use Prim.Native.Nat.{ℕ, _≤_}
 use mathlib.Core.Path.{_≡_}
-use mathlib.Core.Bool.{true}
 use mathlib.Core.List.{List}
 use native.Mathlib.Omega.{arith}
 use lib.ListN.{length, take}
 use lib.Seq.{length-take-le}
-use lib.Dec.{leb}
 use borrow.Author.Tests.{le-leb}
 use Rattle.recipe.specs.Source.{isSource, vectorAt, sourceOf}
 use Rattle.recipe.proofs.Length.{u16-take, slot-take}

@@ -1,10 +1,10 @@
 -- After n steps the finished surfaces' records are those of the unbroken trace, all else is blank, and the state is that of n steps. Assumes nothing.
-use Prim.Native.Nat.{ℕ, zero, suc, _+_, _-_, _*_, _≤_, _<_, min, zero-le}
+use Prim.Native.Nat.{ℕ, suc, _+_, _-_, _*_, _≤_, _<_}
 use mathlib.Core.Path.{_≡_, refl, sym, _∙_, ap, subst}
 use mathlib.Core.List.{List, [], _∷_, _++_, append-assoc, append-nil}
 use mathlib.Core.Bool.{Bool, true, false, false≢true}
 use native.Mathlib.Omega.{arith}
-use native.Mathlib.Nat.{add-zero, zero-add, sub-zero}
+use native.Mathlib.Nat.{zero-add, sub-zero}
 use native.Mathlib.Numerals.{add-one}
 use lib.ListN.{length, replicate, drop, length-append, length-drop}
 use lib.Seq.{sets, drop-cons}
@@ -22,7 +22,7 @@ use Rattle.trace.specs.declared.leg.Beam.{Beam}
 use Rattle.trace.specs.declared.leg.Leg.{Leg}
 use Rattle.trace.specs.declared.state.State.{State}
 use Rattle.trace.specs.Leg.{legOf, beamAfter, rowOf, hitRow, refusalRow, width}
-use Rattle.trace.specs.Unbroken.{Mark, Trace, unbroken, total, finished, rows, padded}
+use Rattle.trace.specs.Unbroken.{Mark, Trace, unbroken, finished, rows, padded}
 use Rattle.trace.specs.State.{Held, held, stateAfter, advance}
 use Rattle.trace.specs.Trace.{opticsOf, standing}
 use Rattle.trace.specs.Demand3.{stateAt}

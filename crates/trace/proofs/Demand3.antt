@@ -1,13 +1,13 @@
 -- Demand 3: however the allowances are chosen, what stands after every call is the unbroken trace's. Assumes nothing.
-use Prim.Native.Nat.{ℕ, zero, suc, _+_, _-_, _*_, _≤_, _<_, min, zero-le}
+use Prim.Native.Nat.{ℕ, zero, suc, _+_, _*_, _≤_}
 use mathlib.Core.Path.{_≡_, refl, sym, _∙_, ap, subst}
 use mathlib.Core.Logic.{_≢_}
-use mathlib.Core.List.{List, [], _∷_, _++_}
-use mathlib.Core.Bool.{Bool, true, false, not}
+use mathlib.Core.List.{List, [], _∷_}
+use mathlib.Core.Bool.{Bool, true, false}
 use native.Mathlib.Omega.{arith}
 use native.Mathlib.Nat.{add-zero, zero-add}
-use lib.ListN.{length, replicate, length-replicate}
-use lib.Dec.{eqb, leb, ltb}
+use lib.ListN.{length, length-replicate}
+use lib.Dec.{eqb, ltb}
 use lib.Ieee.{Float}
 use borrow.Author.Tests.{le-leb, le-ltb, eqb-true, eqb-false, ne-eqb}
 use Rattle.numbers.specs.Arithmetic.{if_then_else_, 0f}
@@ -15,15 +15,15 @@ use Rattle.surfaces.specs.Surface.{limitOf}
 use Rattle.surfaces.specs.declared.types.Ray.{Ray}
 use Rattle.surfaces.specs.declared.surface.Kind.the-variants.{Conic, Even, Biconic, Toroid}
 use Rattle.surfaces.proofs.Choice.{either}
-use Rattle.recipe.specs.Scan.{Item, Scan, items, notes, nothing, sumLimits}
+use Rattle.recipe.specs.Scan.{Item, Scan, notes, nothing, sumLimits}
 use Rattle.recipe.proofs.Chain.{Chain, place-first}
 use Rattle.recipe.proofs.Scans.{scan-sound}
 use Rattle.recipe.proofs.Records.{limit-bounds}
 use Rattle.trace.specs.declared.leg.Beam.{Beam}
 use Rattle.trace.specs.declared.state.State.{State}
 use Rattle.trace.specs.Leg.{width}
-use Rattle.trace.specs.Unbroken.{Trace, unbroken, total, finished, rows, padded}
-use Rattle.trace.specs.State.{Held, held, move, advance, beamGood, fitsOf}
+use Rattle.trace.specs.Unbroken.{unbroken, total}
+use Rattle.trace.specs.State.{Held, held, move, advance, fitsOf}
 use Rattle.trace.specs.Trace.{Reply, recipeOf, itemsOf, opticsOf, blank, standing, beamOf, firstState, accept, startAt, startOf, continueOn, continueOf}
 use Rattle.trace.specs.Ready.{Stands, walking, arrived, Fit}
 use Rattle.trace.specs.Demand3.{calls, sum, stateAt, traceOf, Kept, called, Demand3}

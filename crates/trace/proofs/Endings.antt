@@ -1,10 +1,8 @@
 -- What a surface's end tells: a hit, all of whose numbers are finite, or a number that stops the trace. Assumes nothing.
-use Prim.Native.Nat.{ℕ}
-use mathlib.Core.Path.{_≡_, refl, sym, _∙_, ap, subst}
+use mathlib.Core.Path.{_≡_, refl, sym, _∙_}
 use mathlib.Core.Bool.{Bool, true, false, not, _&&_, false≢true}
-use lib.Dec.{eqb}
 use Rattle.numbers.specs.Arithmetic.{if_then_else_}
-use Rattle.surfaces.specs.Told.{Told, gives, refused, plain, done, after, checked9, stops}
+use Rattle.surfaces.specs.Told.{Told, gives, refused, plain, done, after, stops}
 use Rattle.surfaces.specs.Surface.{turnRule}
 use Rattle.surfaces.specs.declared.types.Landing.{Landing}
 use Rattle.surfaces.specs.declared.surface.Leaving.{Leaving}

@@ -1,19 +1,19 @@
 -- A program's file: the record of the ray, and the start on the rest. Assumes nothing.
-use Prim.Native.Nat.{ℕ, _+_, _-_, _≤_, _<_, zero-le}
-use mathlib.Core.Path.{_≡_, refl, sym, _∙_, ap}
+use Prim.Native.Nat.{ℕ, _≤_}
+use mathlib.Core.Path.{_≡_, refl}
 use mathlib.Core.Logic.{_≢_}
 use mathlib.Core.List.{List}
-use mathlib.Core.Bool.{Bool, true, false, not, _&&_}
+use mathlib.Core.Bool.{Bool, true, false}
 use native.Mathlib.Omega.{arith}
 use lib.ListN.{length, drop}
-use lib.Dec.{eqb, leb}
+use lib.Dec.{eqb}
 use lib.Ieee.{Float}
 use borrow.Author.Tests.{eq-eqb, ne-eqb, leb-true}
-use Rattle.numbers.specs.Arithmetic.{if_then_else_, 0f}
+use Rattle.numbers.specs.Arithmetic.{if_then_else_}
 use Rattle.recipe.specs.declared.scan.Checked.{Checked}
 use Rattle.recipe.specs.declared.source.Source.{Source}
 use Rattle.recipe.specs.Record.{lengthAt, kindAt}
-use Rattle.recipe.specs.Scan.{Scan, refused, items, notes, nothing, scan, says, checkOf}
+use Rattle.recipe.specs.Scan.{Scan, refused, items, nothing, scan, says, checkOf}
 use Rattle.recipe.specs.Source.{isSource, sourceOf}
 use Rattle.recipe.proofs.Notes.{notes-place}
 use Rattle.recipe.proofs.Scans.{scan-place}

@@ -1,16 +1,16 @@
 -- Which states fit a recipe, that a step keeps them fitting, and what that says of a check's notes. Assumes nothing.
-use Prim.Native.Nat.{ℕ, zero, suc, _+_, _*_, _≤_, _<_}
+use Prim.Native.Nat.{ℕ, _+_, _*_, _≤_, _<_}
 use mathlib.Core.Path.{_≡_, refl, sym, _∙_, ap, subst}
 use mathlib.Core.List.{List}
 use mathlib.Core.Bool.{Bool, true, false, not, _&&_, _||_, false≢true}
 use native.Mathlib.Omega.{arith}
 use native.Mathlib.Numerals.{add-one}
 use lib.ListN.{length}
-use lib.Seq.{sets, length-sets}
+use lib.Seq.{length-sets}
 use lib.Dec.{eqb, ltb, leb}
 use lib.Ieee.{Float}
 use lib.Ieee.Scale.{finite}
-use borrow.Author.Tests.{eq-eqb, ne-eqb, lt-ltb, le-leb, eqb-true, eqb-false, ltb-true, leb-true, leb-false, not-true}
+use borrow.Author.Tests.{eq-eqb, ne-eqb, lt-ltb, le-leb, eqb-true, eqb-false, ltb-true, leb-true, not-true}
 use Rattle.numbers.specs.Arithmetic.{_≤₆₄_, if_then_else_, 0f}
 use Rattle.surfaces.specs.Types.{allFinite, rayFinite}
 use Rattle.surfaces.specs.Told.{Told, done, stops}
@@ -29,10 +29,9 @@ use Rattle.trace.specs.declared.leg.Beam.{Beam}
 use Rattle.trace.specs.declared.leg.Leg.{Leg}
 use Rattle.trace.specs.declared.state.State.{State}
 use Rattle.trace.specs.Leg.{legFinite, legOf, beamAfter, rowOf, width}
-use Rattle.trace.specs.State.{Held, held, pausedAt, stateAfter, surfaceLeft, stepOn, move, advance, outcomeKnown, placeFits, passesFit, beamGood, fitsOf}
+use Rattle.trace.specs.State.{Held, held, pausedAt, stateAfter, surfaceLeft, stepOn, move, outcomeKnown, placeFits, passesFit, beamGood, fitsOf}
 use Rattle.trace.specs.Ready.{Stands, walking, arrived, stopped, Fit}
 use Rattle.trace.proofs.Endings.{leg-stops, leg-finite}
-use Rattle.trace.proofs.Steps.{move-ended}
 
 pub and-l : (a b : Bool) → (a && b) ≡ true → a ≡ true
 and-l true b h = refl

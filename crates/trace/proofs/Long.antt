@@ -1,6 +1,6 @@
 -- A recipe that is too long is refused by its first bytes. Assumes nothing.
-use Prim.Native.Nat.{ℕ, zero, suc, _+_, _-_, _≤_, _<_}
-use mathlib.Core.Path.{_≡_, refl, sym, _∙_, ap, subst}
+use Prim.Native.Nat.{ℕ, zero, suc, _+_, _<_}
+use mathlib.Core.Path.{_≡_, subst}
 use mathlib.Core.Logic.{_≢_}
 use mathlib.Core.List.{List, [], _∷_}
 use mathlib.Core.Bool.{Bool, true, false, not}
@@ -12,13 +12,12 @@ use lib.Dec.{eqb}
 use lib.Ieee.{Float}
 use Rattle.numbers.specs.Arithmetic.{if_then_else_}
 use Rattle.surfaces.specs.declared.types.Ray.{Ray}
-use Rattle.recipe.specs.Scan.{Scan, refused, items, scan}
-use Rattle.recipe.specs.Length.{RefusedAlike}
+use Rattle.recipe.specs.Scan.{refused}
 use Rattle.recipe.specs.Source.{sourceOf}
 use Rattle.recipe.proofs.Scans.{Sound, scan-sound}
 use Rattle.recipe.proofs.Length.{too-long}
 use Rattle.recipe.proofs.Sources.{source-take}
-use Rattle.trace.specs.Trace.{recipeOf, blank, refusedAnswer, startAt, startOf, startFileOf}
+use Rattle.trace.specs.Trace.{blank, refusedAnswer, startAt, startOf, startFileOf}
 use Rattle.trace.specs.Long.{Long}
 
 module _ (b : List ℕ) (long : 55296 < length b) (base : ℕ) (ray : Ray) (index : Float) (z : List Float) where

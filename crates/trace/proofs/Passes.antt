@@ -8,7 +8,7 @@ use lib.Ieee.{Float}
 use Rattle.numbers.specs.Arithmetic.{if_then_else_}
 use Rattle.surfaces.specs.Told.{Told, Ended, ended, done, stops}
 use Rattle.surfaces.specs.Newton.{going}
-use Rattle.surfaces.specs.Surface.{passRule, surfaceEnd, limitOf, chain, ChainEnds}
+use Rattle.surfaces.specs.Surface.{passRule, surfaceEnd, limitOf, chain}
 use Rattle.surfaces.specs.declared.types.Ray.{Ray}
 use Rattle.surfaces.specs.declared.types.Landing.{Landing}
 use Rattle.surfaces.specs.declared.surface.Surface.{Surface}

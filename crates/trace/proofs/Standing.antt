@@ -17,7 +17,7 @@ use Rattle.trace.specs.declared.leg.Beam.{Beam}
 use Rattle.trace.specs.declared.leg.Leg.{Leg}
 use Rattle.trace.specs.declared.state.State.{State}
 use Rattle.trace.specs.Leg.{legOf, beamAfter}
-use Rattle.trace.specs.Unbroken.{Mark, Trace, unbroken, total, finished, rows}
+use Rattle.trace.specs.Unbroken.{Mark, Trace, unbroken, total, finished}
 use Rattle.trace.specs.Trace.{opticsOf, standing}
 use Rattle.trace.specs.Demand3.{stateAt}
 use Rattle.trace.proofs.Closed.{unbroken-hit, unbroken-off, state-mid, state-hit, state-off}

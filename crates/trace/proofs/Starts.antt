@@ -1,12 +1,12 @@
 -- The ways out of start and continue, each at what its promise says. Assumes nothing.
-use Prim.Native.Nat.{ℕ, zero, suc, _+_, _-_, _*_, _≤_, _<_, zero-le}
+use Prim.Native.Nat.{ℕ, _*_, _≤_, _<_, zero-le}
 use mathlib.Core.Path.{_≡_, refl, sym, _∙_, ap, subst}
 use mathlib.Core.Logic.{_≢_}
 use mathlib.Core.List.{List, [], _∷_}
 use mathlib.Core.Bool.{Bool, true, false, not, _&&_}
 use native.Mathlib.Omega.{arith}
 use lib.ListN.{length}
-use lib.Dec.{eqb, ltb}
+use lib.Dec.{ltb}
 use lib.Ieee.{Float}
 use lib.Ieee.Scale.{finite}
 use borrow.Author.Tests.{eq-eqb, ne-eqb, lt-ltb, le-ltb, ltb-false, not-true}
@@ -14,7 +14,7 @@ use Rattle.numbers.specs.Arithmetic.{_≤₆₄_, if_then_else_, 0f, decimal}
 use Rattle.surfaces.specs.Types.{rayFinite}
 use Rattle.surfaces.specs.declared.types.Ray.{Ray}
 use Rattle.recipe.specs.declared.scan.Checked.{Checked}
-use Rattle.recipe.specs.Scan.{Item, Scan, refused, items, scan, notes, nothing, says, checkOf, itemsIn, sumLimits}
+use Rattle.recipe.specs.Scan.{Item, Scan, refused, items, notes, nothing, says, checkOf, itemsIn, sumLimits}
 use Rattle.recipe.proofs.Notes.{notes-number, notes-count}
 use Rattle.recipe.proofs.Records.{limit-bounds}
 use Rattle.recipe.proofs.Scans.{Sound, scan-sound, scan-few}

@@ -1,6 +1,6 @@
 -- How steps add up, and what they come to on one surface. Assumes nothing.
 use Prim.Native.Nat.{ℕ, zero, suc, _+_, _*_, _<_}
-use mathlib.Core.Path.{_≡_, refl, sym, _∙_, ap}
+use mathlib.Core.Path.{_≡_, refl, _∙_, ap}
 use mathlib.Core.List.{List}
 use mathlib.Core.Bool.{true, false}
 use native.Mathlib.Omega.{arith}
@@ -8,15 +8,13 @@ use native.Mathlib.Nat.{add-zero, zero-add}
 use native.Mathlib.Numerals.{add-one}
 use lib.ListN.{length}
 use lib.Seq.{sets}
-use lib.Dec.{eqb}
 use lib.Ieee.{Float}
 use borrow.Author.Tests.{ne-eqb}
-use Rattle.numbers.specs.Arithmetic.{if_then_else_, 0f}
+use Rattle.numbers.specs.Arithmetic.{0f}
 use Rattle.surfaces.specs.Told.{Told}
 use Rattle.surfaces.specs.Newton.{going}
 use Rattle.surfaces.specs.Surface.{passRule, chain}
 use Rattle.surfaces.specs.declared.types.Landing.{Landing}
-use Rattle.surfaces.specs.declared.surface.Surface.{Surface}
 use Rattle.recipe.specs.declared.record.Optic.{Optic}
 use Rattle.recipe.specs.Scan.{Item, itemAt}
 use Rattle.trace.specs.declared.leg.Beam.{Beam}

@@ -1,18 +1,17 @@
 -- A walk over surfaces with the passes inside: what it relies on, and that it goes as far as the steps that are allowed. Assumes nothing.
-use Prim.Native.Nat.{ℕ, zero, suc, _+_, _-_, _*_, _≤_, _<_, _^_, zero-le}
+use Prim.Native.Nat.{ℕ, suc, _+_, _-_, _*_, _≤_, _<_, zero-le}
 use mathlib.Core.Path.{_≡_, refl, sym, _∙_, ap, subst}
 use mathlib.Core.List.{List}
-use mathlib.Core.Bool.{Bool, true, false}
+use mathlib.Core.Bool.{true, false}
 use native.Mathlib.Omega.{arith}
 use lib.ListN.{length}
 use lib.Ieee.{Float}
 use Rattle.surfaces.specs.Told.{Told}
 use Rattle.surfaces.specs.Newton.{going}
-use Rattle.surfaces.specs.Surface.{passRule, limitOf}
+use Rattle.surfaces.specs.Surface.{passRule}
 use Rattle.surfaces.specs.declared.types.Ray.{Ray}
 use Rattle.surfaces.specs.declared.types.Landing.{Landing}
 use Rattle.surfaces.specs.declared.surface.Surface.{Surface}
-use Rattle.recipe.specs.declared.record.Optic.{Optic}
 use Rattle.recipe.specs.declared.record.Record.{Record}
 use Rattle.recipe.specs.Record.{readAt}
 use Rattle.recipe.specs.Scan.{Item, items, itemAt, placeOf}

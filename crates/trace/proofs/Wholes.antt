@@ -1,6 +1,6 @@
 -- A start and all steps at once leave what the unbroken trace does. Assumes nothing.
-use Prim.Native.Nat.{ℕ, _+_, _*_, _≤_, _<_, _^_}
-use mathlib.Core.Path.{_≡_, refl, sym, _∙_, ap, subst}
+use Prim.Native.Nat.{ℕ, _≤_, _<_, _^_}
+use mathlib.Core.Path.{_≡_, refl, sym, _∙_, ap}
 use mathlib.Core.Logic.{_≢_}
 use mathlib.Core.List.{List}
 use native.Mathlib.Omega.{arith}
@@ -10,19 +10,15 @@ use lib.Ieee.{Float}
 use Rattle.numbers.specs.Arithmetic.{0f}
 use Rattle.surfaces.specs.declared.types.Ray.{Ray}
 use Rattle.recipe.specs.declared.scan.Checked.{Checked}
-use Rattle.recipe.specs.Scan.{Item, Scan, refused, items, itemsIn, checkOf, placeOf, sumLimits}
+use Rattle.recipe.specs.Scan.{Scan, refused, items, itemsIn, checkOf}
 use Rattle.recipe.proofs.Scans.{scan-sound}
-use Rattle.trace.specs.declared.state.State.{State}
 use Rattle.trace.specs.declared.run.Answer.{Answer}
-use Rattle.trace.specs.Leg.{width}
 use Rattle.trace.specs.Unbroken.{Trace, Mark, unbroken, total, rows, padded}
 use Rattle.trace.specs.State.{Held, held, advance}
-use Rattle.trace.specs.Trace.{Reply, reply, recipeOf, itemsOf, opticsOf, blank, standing, beamOf, firstState, admitted, accept, begunOf, startAt, wholeOf}
+use Rattle.trace.specs.Trace.{Reply, recipeOf, itemsOf, opticsOf, blank, beamOf, firstState, accept, begunOf, startAt, wholeOf}
 use Rattle.trace.specs.Ready.{Ready}
-use Rattle.trace.specs.Demand3.{stateAt}
-use Rattle.trace.proofs.Closed.{Shows}
 use Rattle.trace.proofs.Standing.{total-limit, finished-all, at-end}
-use Rattle.trace.proofs.Starts.{Seen, seen-bad, seen-good, see, start-is, Admitted, admitted-by, admitted-is, refused-alike, no-items, limits-few}
+use Rattle.trace.proofs.Starts.{Seen, seen-good, see, start-is, Admitted, admitted-by, admitted-is, refused-alike, no-items, limits-few}
 use Rattle.trace.proofs.Demand3.{shown, sound}
 
 -- what a check counted

@@ -16,8 +16,8 @@ use Rattle.recipe.specs.Scan.{Item, sumLimits}
 use Rattle.trace.specs.declared.leg.Beam.{Beam}
 use Rattle.trace.specs.declared.state.State.{State}
 use Rattle.trace.specs.Leg.{legOf, beamAfter}
-use Rattle.trace.specs.Unbroken.{Mark, Trace, unbroken, total, finished, rows, padded}
-use Rattle.trace.specs.Trace.{Reply, recipeOf, itemsOf, opticsOf, beamOf, standing, startOf, continueOf}
+use Rattle.trace.specs.Unbroken.{Trace, unbroken, total, finished, rows, padded}
+use Rattle.trace.specs.Trace.{Reply, itemsOf, opticsOf, beamOf, standing, startOf, continueOf}
 
 -- a row of calls, one for each allowance
 unfoldable pub calls : List ℕ → List ℕ → Reply → Reply

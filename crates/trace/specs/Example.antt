@@ -2,13 +2,12 @@
 use Prim.Native.Nat.{ℕ, zero, suc, _/_, _%_}
 use mathlib.Core.Path.{_≡_}
 use mathlib.Core.List.{List, [], _∷_, _++_}
-use lib.ListN.{drop}
-use lib.Ieee.{Float, nan, binary64, ofBits, toBits}
+use lib.Ieee.{Float, binary64, ofBits, toBits}
 use Rattle.numbers.specs.Arithmetic.{0f, 1f}
 use Rattle.surfaces.specs.Types.{vec}
 use Rattle.surfaces.specs.declared.types.Ray.{Ray}
 use Rattle.trace.specs.declared.leg.Beam.{Beam}
-use Rattle.trace.specs.Trace.{Reply, reply, standing, startFileOf, wholeOf}
+use Rattle.trace.specs.Trace.{reply, standing, startFileOf, wholeOf}
 
 -- n bytes, the least first
 unfoldable pub bytes : ℕ → ℕ → List ℕ

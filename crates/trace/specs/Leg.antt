@@ -9,8 +9,6 @@ use Rattle.numbers.specs.Arithmetic.{_+₆₄_, if_then_else_, 0f, 1f}
 use Rattle.surfaces.specs.Types.{zeros, allFinite}
 use Rattle.surfaces.specs.Told.{Told, gives, refused, done, after, checked9, lineOf}
 use Rattle.surfaces.specs.Surface.{turnRule}
-use Rattle.surfaces.specs.declared.types.Vec3.{Vec3}
-use Rattle.surfaces.specs.declared.types.Ray.{Ray}
 use Rattle.surfaces.specs.declared.types.Landing.{Landing}
 use Rattle.surfaces.specs.declared.refusal.Line.{Line}
 use Rattle.surfaces.specs.declared.surface.Boundary.{Boundary}

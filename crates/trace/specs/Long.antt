@@ -1,5 +1,5 @@
 -- What a program may leave unread: a recipe longer than 55,296 bytes, 512 records of 108 bytes, is refused by its first 55,297 bytes alone. Definitions only.
-use Prim.Native.Nat.{ℕ, _+_, _<_}
+use Prim.Native.Nat.{ℕ, _<_}
 use mathlib.Core.Path.{_≡_}
 use mathlib.Core.Logic.{_≢_}
 use mathlib.Core.List.{List}

@@ -1,7 +1,7 @@
 -- What start and continue answer, and what they leave in the result buffer, on every input. Definitions only.
 use Prim.Native.Nat.{ℕ, _+_, _*_}
-use mathlib.Core.List.{List, [], _∷_, map}
-use mathlib.Core.Bool.{Bool, not, _&&_}
+use mathlib.Core.List.{List, map}
+use mathlib.Core.Bool.{not, _&&_}
 use lib.ListN.{length, replicate, drop}
 use lib.Dec.{eqb, ltb}
 use lib.Ieee.{Float}
@@ -11,7 +11,6 @@ use Rattle.surfaces.specs.Types.{zeros, rayFinite}
 use Rattle.surfaces.specs.declared.types.Ray.{Ray}
 use Rattle.recipe.specs.declared.record.Optic.{Optic}
 use Rattle.recipe.specs.declared.scan.Checked.{Checked}
-use Rattle.recipe.specs.declared.source.Source.{Source}
 use Rattle.recipe.specs.Scan.{Item, Scan, refused, items, scan, notes, nothing, placeOf, itemsIn}
 use Rattle.recipe.specs.Source.{sourceOf, sourceBytes}
 use Rattle.trace.specs.declared.leg.Beam.{Beam}
@@ -19,7 +18,7 @@ use Rattle.trace.specs.declared.state.State.{State}
 use Rattle.trace.specs.declared.run.Answer.{Answer}
 use Rattle.trace.specs.Leg.{width}
 use Rattle.trace.specs.State.{Held, held, advance, fitsOf}
-use Rattle.trace.specs.Unbroken.{Trace, unbroken, total, rows, padded}
+use Rattle.trace.specs.Unbroken.{unbroken, total, rows, padded}
 
 -- a recipe of at most 512 records
 abbrev pub mostRecords : ℕ

@@ -1,6 +1,5 @@
 -- Steps to go from here are those to go from the start, over the surfaces and over the passes of each. Assumes nothing.
-use Prim.Native.Nat.{_^_}
-use mathlib.Core.Path.{_≡_, refl, sym, ap, _∙_}
+use mathlib.Core.Path.{refl, sym, ap, _∙_}
 use mathlib.Core.Logic.{⊎-elim}
 use native.Mathlib.Omega.{arith}
 use borrow.Author.Needs.{needs}
@@ -9,7 +8,7 @@ use Rattle.surfaces.specs.Newton.{going}
 use Rattle.surfaces.specs.declared.refusal.Crossing.{Crossing}
 use Rattle.surfaces.proofs.Refusals.{never-going}
 use Rattle.trace.specs.declared.state.State.{State}
-use Rattle.trace.specs.State.{Held, held}
+use Rattle.trace.specs.State.{held}
 use Rattle.trace.proofs.Walks.{Runs, Passing, begins, made-few, room, more, pauses, after-leave, runs-done, runs-ended}
 use Rattle.trace.proofs.run.walk.Statement.{statement}
 use Rattle.trace.proofs.run.walk.Tie as tie

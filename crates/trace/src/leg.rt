@@ -17,6 +17,9 @@ use surfaces::all_finite;
 use surfaces::line_of;
 use surfaces::turn;
 
+// How many numbers a result record has.
+pub(crate) const WIDTH: usize = 13;
+
 // What goes from surface to surface.
 pub struct Beam {
     pub ray: Ray,
@@ -136,7 +139,7 @@ fn truth(b: bool) -> f64
     if b { 1.0 } else { 0.0 }
 }
 
-fn hit_row(g: Leg, steps: u16) -> [f64; 13]
+fn hit_row(g: Leg, steps: u16) -> [f64; WIDTH]
     ensures { λ r. ⌜ r ≡ hitRow g steps ⌝ }
 {
     let p = g.point;
@@ -159,7 +162,7 @@ fn hit_row(g: Leg, steps: u16) -> [f64; 13]
     ]
 }
 
-fn refusal_row(l: Line, steps: u16) -> [f64; 13]
+fn refusal_row(l: Line, steps: u16) -> [f64; WIDTH]
     ensures { λ r. ⌜ r ≡ refusalRow l steps ⌝ }
 {
     [
@@ -179,7 +182,7 @@ fn refusal_row(l: Line, steps: u16) -> [f64; 13]
     ]
 }
 
-pub(crate) fn row(e: Ending, steps: u16) -> [f64; 13]
+pub(crate) fn row(e: Ending, steps: u16) -> [f64; WIDTH]
     ensures { λ r. ⌜ r ≡ rowOf (toldEnding e) steps ⌝ }
 {
     match e {

@@ -9,6 +9,7 @@ ghost use Rattle.trace.specs.State.{held, surfaceLeft, advance};
 ghost use Rattle.trace.specs.Trace.{Reply, blank, standing, itemsOf, refusedAnswer, begunOf, startOf, continueOf, wholeOf};
 ghost use Rattle.trace.specs.Ready.{Ready};
 use crate::leg::Beam;
+use crate::leg::WIDTH;
 use crate::leg::onward;
 use crate::leg::row;
 use crate::state::State;
@@ -25,10 +26,8 @@ use surfaces::Vec3;
 use surfaces::pass;
 use surfaces::ray_finite;
 
-// How many records a recipe may have, and how many numbers a result record has.
+// How many records a recipe may have.
 pub(crate) const MOST: usize = 512;
-
-const WIDTH: usize = 13;
 
 // 1 or the refusal, the refused record's place, and the state.
 pub struct Answer {
@@ -49,7 +48,7 @@ pub(crate) fn blank_out(buf: &mut [f64])
 }
 
 // The record of the surface of a number.
-fn write_row(buf: &mut [f64], number: usize, values: [f64; 13])
+fn write_row(buf: &mut [f64], number: usize, values: [f64; WIDTH])
     requires { ⌜ width * number + width ≤ length (now buf) ⌝ }
     ensures { λ _. ⌜ now (buf .exit) ≡ sets (now (buf .entry)) (width * number) values ⌝ }
 {

@@ -14,9 +14,9 @@ use Rattle.recipe.specs.Scan.{scan, placeOf}
 use Rattle.recipe.specs.Source.{isSource, vectorAt, sourceOf}
 use Rattle.trace.specs.Leg.{boundaryOf, farther, legFinite, legOf, beamAfter, hitRow, rowOf}
 use Rattle.trace.specs.Unbroken.{unbroken, total, rows, padded}
-use Rattle.trace.specs.Trace.{startAt, startFileOf, wholeOf}
+use Rattle.trace.specs.Trace.{admission, startAt, startFileOf, wholeOf}
 use Rattle.trace.specs.Example.{bytes, patterns, beamRecord, planeRecord, patternsOf, Example}
 
 pub example : Example
-unfolding ofBits toBits ofInt neg round add sub mul div lt le eq isNan decimal magnitude negative larger clamped infinite root dotOf overOf distance pointAt allFinite rayFinite everyFinite turnedIf negatedIf bent refracted landedWithin planeCrossing conicCrossing conicNormal gradientNormal normalAt surfaceEnd surfaceNormal onwardFrom turnRule u16At u64At numberAt numbersAt slotAt lengthFits shapedAt semiSlot kindOf coefficientCount coefficientsAt opticAt recordAt scan placeOf isSource vectorAt sourceOf boundaryOf farther legFinite legOf beamAfter hitRow rowOf unbroken total rows padded startAt startFileOf wholeOf bytes patterns beamRecord planeRecord patternsOf
+unfolding ofBits toBits ofInt neg round add sub mul div lt le eq isNan decimal magnitude negative larger clamped infinite root dotOf overOf distance pointAt allFinite rayFinite everyFinite turnedIf negatedIf bent refracted landedWithin planeCrossing conicCrossing conicNormal gradientNormal normalAt surfaceEnd surfaceNormal onwardFrom turnRule u16At u64At numberAt numbersAt slotAt lengthFits shapedAt semiSlot kindOf coefficientCount coefficientsAt opticAt recordAt scan placeOf isSource vectorAt sourceOf boundaryOf farther legFinite legOf beamAfter hitRow rowOf unbroken total rows padded admission startAt startFileOf wholeOf bytes patterns beamRecord planeRecord patternsOf
 example = record { accepted = refl; end = refl; shown = refl }

@@ -6,10 +6,10 @@ use mathlib.Core.List.{List, [], _∷_}
 use mathlib.Core.Bool.{Bool, true, false, not, _&&_}
 use native.Mathlib.Omega.{arith}
 use lib.ListN.{length}
-use lib.Dec.{ltb}
+use lib.Dec.{eqb, ltb}
 use lib.Ieee.{Float}
 use lib.Ieee.Scale.{finite}
-use borrow.Author.Tests.{eq-eqb, ne-eqb, lt-ltb, le-ltb, ltb-false, not-true}
+use borrow.Author.Tests.{eq-eqb, ne-eqb, lt-ltb, le-ltb, eqb-true, eqb-false, ltb-false, not-true}
 use Rattle.numbers.specs.Arithmetic.{_≤₆₄_, if_then_else_, 0f, decimal}
 use Rattle.surfaces.specs.Types.{rayFinite}
 use Rattle.surfaces.specs.declared.types.Ray.{Ray}
@@ -22,7 +22,7 @@ use Rattle.trace.specs.declared.state.State.{State}
 use Rattle.trace.specs.declared.run.Answer.{Answer}
 use Rattle.trace.specs.Leg.{width}
 use Rattle.trace.specs.State.{Held, held, advance, beamGood, fitsOf}
-use Rattle.trace.specs.Trace.{Reply, reply, blank, recipeOf, itemsOf, beamOf, firstState, refusedAnswer, refusedReply, admitted, begunOf, startAt, accept, continueOn, continueOf}
+use Rattle.trace.specs.Trace.{Reply, reply, blank, recipeOf, itemsOf, beamOf, firstState, refusedAnswer, refusedReply, admission, admitted, begunOf, startAt, accept, continueOn, continueOf}
 use Rattle.trace.specs.Ready.{Fit, Ready}
 use Rattle.trace.proofs.Fits.{and-l, and-r, fits-fit, few-steps}
 
@@ -40,23 +40,19 @@ pub see : (b : List ℕ) (w : ℕ) (c : Checked) → c ≡ checkOf b 512 w → S
 unfolding checkOf
 see b w c e = see-scan w c (recipeOf b) (scan-sound b 512 0) e
 
--- an answer and the buffer beside it, by the tests of a start
-module _ (z : List Float) (accept : Answer) where
-  beside : (u v w : Bool)
-      → _≡_ {A = Reply} (record { answer = if not u then refusedAnswer 2 0 else if v then refusedAnswer 4 0 else if w then refusedAnswer 11 0 else accept; buffer = z })
-      (if not u then refusedReply 2 0 z else if v then refusedReply 4 0 z else if w then refusedReply 11 0 z else record { answer = accept; buffer = z })
-  beside false v w = refl
-  beside true true w = refl
-  beside true false true = refl
-  beside true false false = refl
+-- an answer and the buffer beside it
+beside : (z : List Float) (accept : Answer) (n : ℕ) (t : Bool)
+    → _≡_ {A = Reply} (record { answer = if t then accept else refusedAnswer n 0; buffer = z }) (if t then record { answer = accept; buffer = z } else refusedReply n 0 z)
+beside z accept n true = refl
+beside z accept n false = refl
 
 begun : (c : Checked) (r : Scan) → Seen 0 c r → (base : ℕ) (ray : Ray) (index : Float) (z : List Float)
     → record { answer = begunOf c base ray index (length z); buffer = z } ≡ admitted r base ray index z (λ l. reply 1 0 (firstState (length l) (beamOf ray index)) z)
 unfolding begunOf
 begun c (refused n p) (seen-bad e f g) base ray index z = rw (ne-eqb (c .number) 1 g, e, f)
 begun c (items l) (seen-good e n k) base ray index z =
-    rw (eq-eqb (c .number) 1 n, k)
-    (beside z (record { number = 1; place = 0; state = firstState (length l) (beamOf ray index) }) (rayFinite ray && finite index) (index ≤₆₄ 0f) (ltb (length z) (width * length l)))
+    let a = admission ray index (length z) (length l) in
+    rw (eq-eqb (c .number) 1 n, k) (beside z (record { number = 1; place = 0; state = firstState (length l) (beamOf ray index) }) a (eqb a 1))
 
 pub start-is : (b : List ℕ) (c : Checked) → c ≡ checkOf b 512 0 → (base : ℕ) (ray : Ray) (index : Float) (z y : List Float) (a : Answer) → y ≡ blank z
     → a ≡ begunOf c base ray index (length y) → record { answer = a; buffer = y } ≡ startAt base b ray index z
@@ -84,49 +80,53 @@ pub record Admitted (r : Scan) (ray : Ray) (index : Float) (z : List Float) : Ty
   pub beam : beamGood (beamOf ray index) ≡ true
   pub room : width * length (itemsIn r) ≤ length z
 
-module _ (base : ℕ) (ray : Ray) (index : Float) (z : List Float) where
-  abbrev finiteStart : Bool
-  finiteStart = rayFinite ray && finite index
-
-  -- the tests of a start, by what they say
-  abbrev tested : Bool → Bool → Bool → Reply → Reply
-  tested u v w accept = if not u then refusedReply 2 0 z else if v then refusedReply 4 0 z else if w then refusedReply 11 0 z else accept
-
-  start-good : finiteStart ≡ true → (index ≤₆₄ 0f) ≡ false → beamGood (beamOf ray index) ≡ true
+module _ (ray : Ray) (index : Float) where
+  start-good : (rayFinite ray && finite index) ≡ true → (index ≤₆₄ 0f) ≡ false → beamGood (beamOf ray index) ≡ true
   unfolding beamGood decimal
   start-good u v = rw (and-l (rayFinite ray) _ u, and-r (rayFinite ray) _ u, v)
 
-  admits : (l : List Item) (f : Reply) → (u v w : Bool) → finiteStart ≡ u → (index ≤₆₄ 0f) ≡ v → ltb (length z) (width * length l) ≡ w
-      → tested u v w f .answer .number ≡ 1 → Admitted (items l) ray index z
+  admission-good : (room count : ℕ) → admission ray index room count ≡ 1 → (beamGood (beamOf ray index) ≡ true) × (width * count ≤ room)
+  unfolding admission
+  admission-good room count h = by (rayFinite ray && finite index) (index ≤₆₄ 0f) (ltb room (width * count)) refl refl refl h
+    where
+      by : (u v w : Bool) → (rayFinite ray && finite index) ≡ u → (index ≤₆₄ 0f) ≡ v → ltb room (width * count) ≡ w
+          → _≡_ {A = ℕ} (if not u then 2 else if v then 4 else if w then 11 else 1) 1 → (beamGood (beamOf ray index) ≡ true) × (width * count ≤ room)
+      by false v w a b c h = absurd (omega arith)
+      by true true w a b c h = absurd (omega arith)
+      by true false true a b c h = absurd (omega arith)
+      by true false false a b c h = (start-good a b, ltb-false _ _ c)
+
+  good-admission : (room count : ℕ) → beamGood (beamOf ray index) ≡ true → width * count ≤ room → admission ray index room count ≡ 1
+  unfolding admission
+  good-admission room count b h = let g = index-of ray index b in rw (g .0, g .1, le-ltb room (width * count) h)
+
+module _ (base : ℕ) (ray : Ray) (index : Float) (z : List Float) where
+  admits : (l : List Item) (f : Reply) (t : Bool) → let n = admission ray index (length z) (length l) in
+      eqb n 1 ≡ t → (if t then f else refusedReply n 0 z) .answer .number ≡ 1 → Admitted (items l) ray index z
   unfolding refusedAnswer
-  admits l f false v w a b c h = absurd (omega arith)
-  admits l f true true w a b c h = absurd (omega arith)
-  admits l f true false true a b c h = absurd (omega arith)
-  admits l f true false false a b c h = record { good = refl; beam = start-good a b; room = ltb-false _ _ c }
+  admits l f true e h =
+      let g = admission-good ray index (length z) (length l) (eqb-true _ _ e) in
+      record { good = refl; beam = g .0; room = g .1 }
+  admits l f false e h = absurd (eqb-false _ _ e h)
 
   pub admitted-by : (r : Scan) → Sound r → (f : List Item → Reply) → admitted r base ray index z f .answer .number ≡ 1 → Admitted r ray index z
   unfolding refusedAnswer
   admitted-by (refused n p) s f h = absurd (s h)
-  admitted-by (items l) s f h = admits l (f l) _ _ _ refl refl refl h
+  admitted-by (items l) s f h = admits l (f l) _ refl h
 
   -- what is accepted, and what is refused, whatever an accepted start leads to
   pub admitted-is : (r : Scan) → Admitted r ray index z → (f : List Item → Reply) → admitted r base ray index z f ≡ f (itemsIn r)
-  unfolding beamGood
   admitted-is (refused n p) a f = absurd (no-items (a .good))
-  admitted-is (items l) a f =
-      let g = index-of ray index (a .beam) in
-      rw (g .0, g .1, le-ltb (length z) (width * length l) (a .room))
+  admitted-is (items l) a f = rw (good-admission ray index (length z) (length l) (a .beam) (a .room))
 
-  alike : (u v w : Bool) (f g : Reply) → f .answer .number ≡ 1 → tested u v w f .answer .number ≢ 1 → tested u v w f ≡ tested u v w g
-  alike false v w f g a h = refl
-  alike true true w f g a h = refl
-  alike true false true f g a h = refl
-  alike true false false f g a h = absurd (h a)
+  alike : (t : Bool) (f g r : Reply) → f .answer .number ≡ 1 → (if t then f else r) .answer .number ≢ 1 → (if t then f else r) ≡ (if t then g else r)
+  alike true f g r a h = absurd (h a)
+  alike false f g r a h = refl
 
   pub refused-alike : (r : Scan) (f g : List Item → Reply) → ((l : List Item) → f l .answer .number ≡ 1) → admitted r base ray index z f .answer .number ≢ 1
       → admitted r base ray index z f ≡ admitted r base ray index z g
   refused-alike (refused n p) f g a h = refl
-  refused-alike (items l) f g a h = alike finiteStart (index ≤₆₄ 0f) (ltb (length z) (width * length l)) (f l) (g l) (a l) h
+  refused-alike (items l) f g a h = alike (eqb (admission ray index (length z) (length l)) 1) (f l) (g l) _ (a l) h
 
 -- continue
 module _ (b : List ℕ) (s : State) (z : List Float) (k : ℕ) where

@@ -56,27 +56,30 @@ refusedReply n p z = record { answer = refusedAnswer n p; buffer = z }
 abbrev pub beamOf : Ray → Float → Beam
 beamOf ray index = record { ray = ray; index = index; path = 0f }
 
--- the checks of a start: the recipe's, places counted from `base` on; ray and index finite, index above 0; room
+-- ray and index finite, index above 0, room for so many records: 1, or the refusal
+unfoldable pub admission : Ray → Float → ℕ → ℕ → ℕ
+admission ray index room count =
+    if not (rayFinite ray && finite index) then 2 else
+    if index ≤₆₄ 0f then 4 else
+    if ltb room (width * count) then 11 else 1
+
+-- the checks of a start, the recipe's first, with places counted from `base` on
 abbrev pub admitted : Scan → ℕ → Ray → Float → List Float → (List Item → Reply) → Reply
 admitted (refused n p) base ray index z accept = refusedReply n (base + p) z
 admitted (items l) base ray index z accept =
-    if not (rayFinite ray && finite index) then refusedReply 2 0 z else
-    if index ≤₆₄ 0f then refusedReply 4 0 z else
-    if ltb (length z) (width * length l) then refusedReply 11 0 z else
-    accept l
+    let n = admission ray index (length z) (length l) in
+    if eqb n 1 then accept l else refusedReply n 0 z
 
 -- no records: done at once
 abbrev pub firstState : ℕ → Beam → State
 firstState count b = standing 0 0 b 0 (if eqb 0 count then 1 else 0)
 
--- the same by what a check says of the recipe, and how much room there is
+-- what a start answers, by what a check says of the recipe and how much room there is
 unfoldable pub begunOf : Checked → ℕ → Ray → Float → ℕ → Answer
 begunOf c base ray index room =
+    let n = admission ray index room (c .count) in
     if not (eqb (c .number) 1) then refusedAnswer (c .number) (base + c .place) else
-    if not (rayFinite ray && finite index) then refusedAnswer 2 0 else
-    if index ≤₆₄ 0f then refusedAnswer 4 0 else
-    if ltb room (width * c .count) then refusedAnswer 11 0 else
-    record { number = 1; place = 0; state = firstState (c .count) (beamOf ray index) }
+    if eqb n 1 then record { number = 1; place = 0; state = firstState (c .count) (beamOf ray index) } else refusedAnswer n 0
 
 -- start first blanks the whole buffer
 unfoldable pub startAt : ℕ → List ℕ → Ray → Float → List Float → Reply

@@ -6,7 +6,7 @@ ghost use lib.Seq.{sets};
 ghost use Rattle.surfaces.specs.Told.{toldCrossing};
 ghost use Rattle.trace.specs.Leg.{width};
 ghost use Rattle.trace.specs.State.{held, surfaceLeft, advance};
-ghost use Rattle.trace.specs.Trace.{Reply, blank, standing, itemsOf, refusedAnswer, begunOf, startOf, continueOf, wholeOf};
+ghost use Rattle.trace.specs.Trace.{Reply, blank, standing, itemsOf, refusedAnswer, admission, begunOf, startOf, continueOf, wholeOf};
 ghost use Rattle.trace.specs.Ready.{Ready};
 use crate::leg::Beam;
 use crate::leg::WIDTH;
@@ -163,6 +163,19 @@ fn before_first(beam: Beam, outcome: u8) -> State
     }
 }
 
+// Ray and index, then room for so many records: 1, or the refusal.
+fn admission(ray: Ray, index: f64, room: usize, count: usize) -> u8
+    ensures { λ n. ⌜ n ≡ admission ray index room count ⌝ }
+{
+    if !(ray_finite(ray) & is_finite(index)) {
+        return 2;
+    }
+    if index <= 0.0 {
+        return 4;
+    }
+    if room / WIDTH < count { 11 } else { 1 }
+}
+
 // What start answers, by what a check says of the recipe, whose places count from `base`, and how much room there is.
 pub(crate) fn begin(c: Checked, base: usize, ray: Ray, index: f64, room: usize) -> Answer
     requires { ⌜ base + c .place < 2 ^ 64 ⌝ }
@@ -171,14 +184,9 @@ pub(crate) fn begin(c: Checked, base: usize, ray: Ray, index: f64, room: usize) 
     if c.number != 1 {
         return refused(c.number, base + c.place);
     }
-    if !(ray_finite(ray) & is_finite(index)) {
-        return refused(2, 0);
-    }
-    if index <= 0.0 {
-        return refused(4, 0);
-    }
-    if room / WIDTH < c.count {
-        return refused(11, 0);
+    let n = admission(ray, index, room, c.count);
+    if n != 1 {
+        return refused(n, 0);
     }
     let beam = Beam {
         ray,

@@ -1,6 +1,6 @@
 // What is printed of an answer.
 use lines::put_count;
-use lines::put_float;
+use lines::put_floats;
 use lines::put_word;
 use lines::write_line;
 use surfaces::Coefficients;
@@ -102,17 +102,17 @@ impl Answer {
         }
         let count = self.count;
         let values = self.values;
-        let mut end = put_count(line, 0, self.number);
-        let mut i = 0usize;
-        while i < 19 {
-            if count <= i {
-                return end;
-            }
-            end = put_float(line, end, values[i]);
-            i += 1;
-        }
-        end
+        let end = put_count(line, 0, self.number);
+        put_floats(line, end, first(&values, count))
     }
+}
+
+// The first n values, as many as there are.
+fn first(values: &[f64], n: usize) -> &[f64] {
+    if n < values.len() {
+        return &values[..n];
+    }
+    values
 }
 
 pub(crate) fn refused(e: Refusal) -> Answer {

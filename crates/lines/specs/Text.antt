@@ -2,6 +2,7 @@
 use Prim.Native.Nat.{ℕ, zero, suc, _+_, _-_, _/_, _%_}
 use mathlib.Core.List.{List, [], _∷_, _++_}
 use lib.Dec.{eqb, ltb}
+use lib.Ieee.{Float, binary64, toBits}
 use lib.ListN.{length, take, drop, set}
 use Rattle.numbers.specs.Arithmetic.{if_then_else_}
 
@@ -27,6 +28,11 @@ put out at word =
     if ltb (at + length word) (length out)
     then (at + length word + 1, take at out ++ word ++ (32 ∷ drop (at + length word + 1) out))
     else (at, out)
+
+-- the next place and the buffer, with the patterns of numbers put one after the other
+unfoldable pub putFloats : ℕ × List ℕ → List Float → ℕ × List ℕ
+putFloats line [] = line
+putFloats line (x ∷ rest) = putFloats (put (line .1) (line .0) (hexText 16 (toBits binary64 x))) rest
 
 -- the buffer with a line feed in place of the space that ends its first bytes, if it has so many
 unfoldable pub ended : List ℕ → ℕ → List ℕ

@@ -3,7 +3,7 @@
 ghost use mathlib.Core.Path.{_≡_};
 ghost use Prim.Native.Nat.{_<_};
 ghost use lib.Ieee.{binary64, toBits};
-ghost use Rattle.lines.specs.Text.{glyph, hexText, decimalText, put, ended};
+ghost use Rattle.lines.specs.Text.{glyph, hexText, decimalText, put, putFloats, ended};
 use libc::STDOUT_FILENO;
 
 // Puts a word and a space from a place on, and answers the next place. Where there is no room it puts nothing, and the place stays.
@@ -41,8 +41,19 @@ pub fn put_float(out: &mut [u8], at: usize, x: f64) -> usize
     put_word(out, at, &text)
 }
 
-// `to_bits` takes no NaN: one pattern stands for all of them.
-fn bits_of(x: f64) -> u64
+// Puts the patterns of numbers one after the other, each as `put_word` does.
+pub fn put_floats(out: &mut [u8], at: usize, values: &[f64]) -> usize
+    ensures { λ r. ⌜ (r, now (out .exit)) ≡ putFloats (at, now (out .entry)) (now (values .entry)) ⌝ }
+{
+    let mut end = at;
+    for i in 0..values.len() {
+        end = put_float(out, end, values[i]);
+    }
+    end
+}
+
+// A number's pattern. `to_bits` takes no NaN: one pattern stands for all of them.
+pub fn bits_of(x: f64) -> u64
     ensures { λ r. ⌜ r ≡ toBits binary64 x ⌝ }
 {
     if x != x {

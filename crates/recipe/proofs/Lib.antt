@@ -1,6 +1,7 @@
 -- Laws that several proofs use.
 pub mod Shapes
 pub mod Numbers
+pub mod Patterns
 pub mod Records
 pub mod Scans
 pub mod Chain

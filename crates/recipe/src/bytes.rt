@@ -2,10 +2,10 @@
 ghost use mathlib.Core.Path.{_≡_};
 ghost use lib.ListN.{length};
 ghost use Prim.Native.Nat.{_+_, _*_, _≤_, _<_};
+ghost use lib.Ieee.Scale.{finite};
 ghost use Rattle.surfaces.specs.Types.{everyFinite};
 ghost use Rattle.recipe.specs.Bytes.{u16At, u64At, numberAt, numbersAt};
 use numbers::from_bits;
-use numbers::is_finite;
 
 pub(crate) fn u16_at(s: &[u8], at: usize) -> usize
     requires { ⌜ at + 2 ≤ length (now s) ⌝ }
@@ -32,6 +32,14 @@ pub(crate) fn number_at(s: &[u8], at: usize) -> f64
     from_bits(u64_at(s, at))
 }
 
+// By the pattern alone: the exponent's digits are not all ones.
+fn finite_at(s: &[u8], at: usize) -> bool
+    requires { ⌜ at + 8 ≤ length (now s) ⌝ }
+    ensures { λ r. ⌜ r ≡ finite (numberAt (now (s .entry)) at) ⌝ }
+{
+    u64_at(s, at) % 0x8000_0000_0000_0000 / 0x10_0000_0000_0000 != 2047
+}
+
 // Whether the n numbers from a place on are finite.
 pub(crate) fn numbers_finite(s: &[u8], at: usize, n: usize) -> bool
     requires { ⌜ at + 8 * n ≤ length (now s) ⌝ }
@@ -40,7 +48,7 @@ pub(crate) fn numbers_finite(s: &[u8], at: usize, n: usize) -> bool
     let mut place = at;
     let mut left = n;
     while left > 0 {
-        if !is_finite(number_at(s, place)) {
+        if !finite_at(s, place) {
             return false;
         }
         place += 8;

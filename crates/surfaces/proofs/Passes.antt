@@ -9,7 +9,7 @@ use lib.Ieee.{Float}
 use Rattle.numbers.specs.Arithmetic.{if_then_else_, _<₆₄_, 1e-15}
 use Rattle.numbers.specs.Basic.{magnitude}
 use Rattle.surfaces.specs.Told.{Told, Ended, ended, noCrossing}
-use Rattle.surfaces.specs.Newton.{Shape, going, passAt, vertexPlane, passesFrom, newtonEnd, nextPass, limitedPass}
+use Rattle.surfaces.specs.Newton.{Shape, going, passAt, vertexPlane, passesFrom, newtonEnd, nextPass, limitedPass, passStart}
 use Rattle.surfaces.specs.declared.types.Ray.{Ray}
 use Rattle.surfaces.specs.declared.types.Landing.{Landing}
 
@@ -44,7 +44,7 @@ module _ (q : Shape) (vertex : Float) (ray : Ray) where
   begin false t h = ap (λ n. passesFrom q vertex ray n 0 t) h ∙ turn 0 (q .limit - 1) (passAt q vertex ray t) _ refl (omega arith)
 
   pub step : (made : ℕ) (t : Float) → made < q .limit → onFrom made t ≡ next made (limitedPass q vertex ray made t)
-  unfolding newtonEnd limitedPass nextPass passesFrom
+  unfolding newtonEnd limitedPass nextPass passStart passesFrom
   step zero t h = begin (magnitude (ray .direction .z) <₆₄ 1e-15) (vertexPlane vertex ray) (omega arith)
   step (suc n) t h =
       let d : q .limit - suc n ≡ suc (q .limit - suc (suc n)) = omega arith in

@@ -13,7 +13,7 @@ use Rattle.surfaces.specs.Types.{vec, backwards, dotOf, overOf, distance
 use Rattle.surfaces.specs.Told.{Told, Ended, plain, vignetted, gives, refused, noNumber, noPair, noDirection, noCrossing, noConic, noLeaving, ended, sagOf}
 use Rattle.surfaces.specs.Snell.{turnedIf, negatedIf, mirrored, reflected, reflectAnswer, bent, refracted, refractAnswer}
 use Rattle.surfaces.specs.Conic.{conicSurface, curvatureOf, fromRadius, fromCurvature, conicSag, conicSagAnswer, gradientNormal, conicNormal, conicNormalAnswer, conicFinite, landedWithin, planeCrossing, onSheet, firstOn, kept, firstRoot, secondRoot, ascending, quadraticOf, signOf, curvedCrossing, conicCrossing, normalAt, hitAt, meetRule, meetAnswer}
-use Rattle.surfaces.specs.Newton.{arrivedAt, movedBy, passAt, vertexPlane, passesFrom, newtonEnd, nextPass, limitedPass}
+use Rattle.surfaces.specs.Newton.{arrivedAt, movedBy, passAt, vertexPlane, passesFrom, newtonEnd, passStart, nextPass, limitedPass}
 use Rattle.surfaces.specs.Asphere.{powerSumFrom, slopeSumFrom, edgeRoot, baseRoot, baseSag, baseSlope, evenDepth, evenSlopeFrom, evenSlope, radialSlopes, evenSlopes, lengthOf, facingOf, evenFacing, evenNormal, evenGood, evenSagAnswer, evenParaxial, evenCrossingAnswer}
 use Rattle.surfaces.specs.Biconic.{numeratorOf, biconicRadicand, biconicDepth, onAxis, meridianSlope, biconicSlopesAt, biconicSlopes, normalOf, biconicNormal, biconicGood, biconicCrossingAnswer, baseCurveRadicand, baseCurveSag, circleDepth, toroidDepth, slopeRadicand, baseCurveSlope, circleSlopesAt, circleSlopes, toroidSlopes, toroidNormal, toroidGood, toroidSagAnswer, toroidSlopesAnswer, toroidCrossingAnswer}
 use Rattle.surfaces.specs.Surface.{surfaceEnd, surfaceNormal, onwardFrom, turnRule}
@@ -204,5 +204,5 @@ cases =
     (direction (reflectAnswer z backwards) ⇒ direction (gives (vec 0f 0f (neg 1f)))) ∷ []
 
 pub each-case : rules cases ≡ papers cases
-unfolding cases bits _over_ decimal magnitude negative larger clamped infinite root neg add sub mul div lt le eq isNan ofBits ofInt dotOf overOf distance pointAt allFinite rayFinite bothFinite landingFinite hitFinite everyFinite coefficientsGood sagOf turnedIf negatedIf mirrored reflected reflectAnswer bent refracted refractAnswer curvatureOf fromRadius fromCurvature conicSag conicSagAnswer gradientNormal conicNormal conicNormalAnswer conicFinite landedWithin planeCrossing onSheet firstOn kept firstRoot secondRoot ascending quadraticOf signOf curvedCrossing conicCrossing normalAt hitAt meetRule meetAnswer arrivedAt movedBy passAt vertexPlane passesFrom newtonEnd nextPass limitedPass powerSumFrom slopeSumFrom edgeRoot baseRoot baseSag baseSlope evenDepth evenSlopeFrom evenSlope radialSlopes evenSlopes lengthOf facingOf evenFacing evenNormal evenGood evenSagAnswer evenParaxial evenCrossingAnswer numeratorOf biconicRadicand biconicDepth onAxis meridianSlope biconicSlopesAt biconicSlopes normalOf biconicNormal biconicGood biconicCrossingAnswer baseCurveRadicand baseCurveSag circleDepth toroidDepth slopeRadicand baseCurveSlope circleSlopesAt circleSlopes toroidSlopes toroidNormal toroidGood toroidSagAnswer toroidSlopesAnswer toroidCrossingAnswer surfaceEnd surfaceNormal onwardFrom turnRule
+unfolding cases bits _over_ decimal magnitude negative larger clamped infinite root neg add sub mul div lt le eq isNan ofBits ofInt dotOf overOf distance pointAt allFinite rayFinite bothFinite landingFinite hitFinite everyFinite coefficientsGood sagOf turnedIf negatedIf mirrored reflected reflectAnswer bent refracted refractAnswer curvatureOf fromRadius fromCurvature conicSag conicSagAnswer gradientNormal conicNormal conicNormalAnswer conicFinite landedWithin planeCrossing onSheet firstOn kept firstRoot secondRoot ascending quadraticOf signOf curvedCrossing conicCrossing normalAt hitAt meetRule meetAnswer arrivedAt movedBy passAt vertexPlane passesFrom newtonEnd passStart nextPass limitedPass powerSumFrom slopeSumFrom edgeRoot baseRoot baseSag baseSlope evenDepth evenSlopeFrom evenSlope radialSlopes evenSlopes lengthOf facingOf evenFacing evenNormal evenGood evenSagAnswer evenParaxial evenCrossingAnswer numeratorOf biconicRadicand biconicDepth onAxis meridianSlope biconicSlopesAt biconicSlopes normalOf biconicNormal biconicGood biconicCrossingAnswer baseCurveRadicand baseCurveSag circleDepth toroidDepth slopeRadicand baseCurveSlope circleSlopesAt circleSlopes toroidSlopes toroidNormal toroidGood toroidSagAnswer toroidSlopesAnswer toroidCrossingAnswer surfaceEnd surfaceNormal onwardFrom turnRule
 each-case = refl

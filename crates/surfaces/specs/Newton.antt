@@ -82,12 +82,15 @@ canBeMet good semi ray vertex = rayFinite ray && finite vertex && good && not (s
 abbrev pub newtonAnswer : Bool → Shape → Ray → Float → Told Landing
 newtonAnswer good q ray vertex = handedOut 2 noLanding landingFinite (canBeMet good (q .semi) ray vertex) (newtonEnd q vertex ray .answer)
 
--- the pass after `made` passes: the test of dz and the start at the vertex plane belong to the first
+-- where a pass begins: the first at the vertex plane
+unfoldable pub passStart : Float → Ray → ℕ → Float → Float
+passStart vertex ray made t = if eqb made 0 then vertexPlane vertex ray else t
+
+-- the pass after `made` passes: the test of dz belongs to the first
 unfoldable pub nextPass : Shape → Float → Ray → ℕ → Float → Told Landing
 nextPass q vertex ray made t =
-    if not (eqb made 0) then passAt q vertex ray t else
-    if magnitude (ray .direction .z) <₆₄ 1e-15 then noCrossing 6 else
-    passAt q vertex ray (vertexPlane vertex ray)
+    if eqb made 0 && (magnitude (ray .direction .z) <₆₄ 1e-15) then noCrossing 6 else
+    passAt q vertex ray (passStart vertex ray made t)
 
 -- the same with the limit: the last pass ends in a miss if in nothing else
 unfoldable pub limitedPass : Shape → Float → Ray → ℕ → Float → Told Landing

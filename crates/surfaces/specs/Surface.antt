@@ -19,6 +19,8 @@ use Rattle.surfaces.specs.declared.types.Coefficients.{Coefficients}
 use Rattle.surfaces.specs.declared.conic.ConicSurface.{ConicSurface}
 use Rattle.surfaces.specs.declared.surface.Profile.{Profile}
 use Rattle.surfaces.specs.declared.surface.Profile.the-variants as profile
+use Rattle.surfaces.specs.declared.surface.Family.{Family}
+use Rattle.surfaces.specs.declared.surface.Family.the-variants as family
 use Rattle.surfaces.specs.declared.surface.Kind.{Kind}
 use Rattle.surfaces.specs.declared.surface.Kind.the-variants.{Conic, Even, Biconic, Toroid}
 use Rattle.surfaces.specs.declared.surface.Surface.{Surface}
@@ -41,12 +43,20 @@ slopesFrom (profile.Toroid rx cy ky) a p s part base = toroidSlopesFrom rx cy ky
 abbrev pub conicOf : Surface → Float → Float → ConicSurface
 conicOf s c k = conicSurface (s .vertex) c k (s .semi)
 
--- how a surface is met, by its kind: a conic as a whole, the others by passes over their shape
+-- a conic is met as a whole, the other kinds by passes over a profile
+abbrev pub familyOf : Kind → Family
+familyOf (Conic c k) = family.Conic c k
+familyOf (Even c k) = family.Newton (profile.Even c k)
+familyOf (Biconic cx kx cy ky) = family.Newton (profile.Biconic cx kx cy ky)
+familyOf (Toroid rx cy ky) = family.Newton (profile.Toroid rx cy ky)
+
+abbrev pub metAs : {A : Type 0} → Family → Surface → (ConicSurface → A) → (Shape → A) → A
+metAs (family.Conic c k) s whole passes = whole (conicOf s c k)
+metAs (family.Newton q) s whole passes = passes (shapeOf q (s .coefficients) (s .semi))
+
+-- how a surface is met, by its kind
 abbrev pub metBy : {A : Type 0} → Kind → Surface → (ConicSurface → A) → (Shape → A) → A
-metBy (Conic c k) s whole passes = whole (conicOf s c k)
-metBy (Even c k) s whole passes = passes (evenShape c k (s .coefficients) (s .semi))
-metBy (Biconic cx kx cy ky) s whole passes = passes (biconicShape cx kx cy ky (s .semi))
-metBy (Toroid rx cy ky) s whole passes = passes (toroidShape rx cy ky (s .semi))
+metBy k s whole passes = metAs (familyOf k) s whole passes
 
 -- one pass over a surface, after `made` passes from t; a conic is met in one
 unfoldable pub passRule : Surface → Ray → ℕ → Float → Told Landing

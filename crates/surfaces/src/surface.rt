@@ -4,8 +4,8 @@ ghost use Rattle.numbers.specs.Arithmetic.{0f};
 ghost use Rattle.numbers.specs.Sqrt.{root};
 ghost use Rattle.surfaces.specs.Types.{noCoefficients};
 ghost use Rattle.surfaces.specs.Told.{toldPair, toldDirection, toldCrossing, toldDepth, toldPassed, toldEnd, toldTurned, noCrossing};
-ghost use Rattle.surfaces.specs.Newton.{arrivedAt, movedBy, passAt, vertexPlane, nextPass, limitedPass, newtonEnd, canBeMet};
-ghost use Rattle.surfaces.specs.Surface.{shapeOf, slopesFrom, conicOf, passRule, limitOf, surfaceNormal, onwardFrom, turnRule};
+ghost use Rattle.surfaces.specs.Newton.{arrivedAt, movedBy, passAt, vertexPlane, passStart, nextPass, limitedPass, newtonEnd, canBeMet};
+ghost use Rattle.surfaces.specs.Surface.{shapeOf, slopesFrom, conicOf, familyOf, passRule, limitOf, surfaceNormal, onwardFrom, turnRule};
 use crate::asphere::Depth;
 use crate::asphere::even_depth;
 use crate::asphere::even_normal;
@@ -59,6 +59,12 @@ pub(crate) enum Profile {
     Even(f64, f64),
     Biconic(f64, f64, f64, f64),
     Toroid(f64, f64, f64),
+}
+
+// A conic is met as a whole, the other kinds by passes.
+pub(crate) enum Family {
+    Conic(f64, f64),
+    Newton(Profile),
 }
 
 // What a pass comes to: a hit, a refusal, or the t of the next pass.
@@ -193,7 +199,14 @@ fn vertex_plane(vertex: f64, ray: Ray) -> f64
     if t < 0.0 { 0.0 } else { t }
 }
 
-// The pass after `made` passes: the first begins at the vertex plane.
+// Where a pass begins: the first at the vertex plane.
+fn pass_start(vertex: f64, ray: Ray, made: u16, t: f64) -> f64
+    ensures { λ u. ⌜ u ≡ passStart vertex ray made t ⌝ }
+{
+    if made == 0 { vertex_plane(vertex, ray) } else { t }
+}
+
+// The pass after `made` passes. It has one place where it passes, so that the compiler can put that here.
 fn next_pass(
     q: Profile,
     a: Coefficients,
@@ -205,13 +218,10 @@ fn next_pass(
 ) -> Passed
     ensures { λ x. ⌜ toldPassed x ≡ nextPass (shapeOf q a semi) vertex ray made t ⌝ }
 {
-    if made != 0 {
-        return pass_at(q, a, semi, vertex, ray, t);
-    }
-    if abs(ray.direction.z) < 1e-15 {
+    if (made == 0) & (abs(ray.direction.z) < 1e-15) {
         return missed();
     }
-    pass_at(q, a, semi, vertex, ray, vertex_plane(vertex, ray))
+    pass_at(q, a, semi, vertex, ray, pass_start(vertex, ray, made, t))
 }
 
 // The same, where the last pass that is allowed ends in a miss at worst.
@@ -284,33 +294,26 @@ fn conic_of(s: Surface, c: f64, k: f64) -> ConicSurface
     }
 }
 
+fn family_of(kind: Kind) -> Family
+    ensures { λ r. ⌜ r ≡ familyOf kind ⌝ }
+{
+    match kind {
+        Kind::Conic(c, k) => Family::Conic(c, k),
+        Kind::Even(c, k) => Family::Newton(Profile::Even(c, k)),
+        Kind::Biconic(cx, kx, cy, ky) => Family::Newton(Profile::Biconic(cx, kx, cy, ky)),
+        Kind::Toroid(rx, cy, ky) => Family::Newton(Profile::Toroid(rx, cy, ky)),
+    }
+}
+
 // One pass of a trace over a surface, `made` passes after the first; a conic is met in one.
 pub fn pass(s: Surface, ray: Ray, made: u16, t: f64) -> Passed
     ensures { λ x. ⌜ toldPassed x ≡ passRule s ray made t ⌝ }
 {
     let a = s.coefficients;
     let kind = s.kind;
-    match kind {
-        Kind::Conic(c, k) => ended(crossing(ray, conic_of(s, c, k))),
-        Kind::Even(c, k) => limited_pass(Profile::Even(c, k), a, s.semi, s.vertex, ray, made, t),
-        Kind::Biconic(cx, kx, cy, ky) => limited_pass(
-            Profile::Biconic(cx, kx, cy, ky),
-            a,
-            s.semi,
-            s.vertex,
-            ray,
-            made,
-            t,
-        ),
-        Kind::Toroid(rx, cy, ky) => limited_pass(
-            Profile::Toroid(rx, cy, ky),
-            a,
-            s.semi,
-            s.vertex,
-            ray,
-            made,
-            t,
-        ),
+    match family_of(kind) {
+        Family::Conic(c, k) => ended(crossing(ray, conic_of(s, c, k))),
+        Family::Newton(q) => limited_pass(q, a, s.semi, s.vertex, ray, made, t),
     }
 }
 
@@ -318,11 +321,9 @@ pub fn pass(s: Surface, ray: Ray, made: u16, t: f64) -> Passed
 pub fn limit(kind: Kind) -> u16
     ensures { λ n. ⌜ n ≡ limitOf kind ⌝ }
 {
-    match kind {
-        Kind::Conic(_, _) => 1,
-        Kind::Even(c, k) => profile_limit(Profile::Even(c, k)),
-        Kind::Biconic(cx, kx, cy, ky) => profile_limit(Profile::Biconic(cx, kx, cy, ky)),
-        Kind::Toroid(rx, cy, ky) => profile_limit(Profile::Toroid(rx, cy, ky)),
+    match family_of(kind) {
+        Family::Conic(_, _) => 1,
+        Family::Newton(q) => profile_limit(q),
     }
 }
 

@@ -21,13 +21,13 @@ loop-holds c = (search needs, refl)
 
 returns : tie.Need-returns Inv-loop μ-loop
 returns c =
-    let c2 = c .before .before in let l = c2 .before .before in
-    sym (finite-stop (l .before .before .args .s .now) (l .loop .place) (l .loop .left) (search needs) (rw (← c2 .number-at .ensures, ← c .before .is-finite .ensures) (c .if1 .taken))) ∙ l .loop .inv .1
+    let l = c .before .before .before in
+    sym (finite-stop (l .before .before .args .s .now) (l .loop .place) (l .loop .left) (search needs) (rw (← c .before .finite-at .ensures) (c .if1 .taken))) ∙ l .loop .inv .1
 
 loop-again : tie.Need-loop-again Inv-loop μ-loop
 loop-again c =
-    let c2 = c .before .before in let l = c2 .before .before in
-    (omega arith, sym (finite-turn (l .before .before .args .s .now) (l .loop .place) (l .loop .left) (search needs) (rw (← c2 .number-at .ensures, ← c .before .is-finite .ensures) (c .if1 .left))) ∙ l .loop .inv .1)
+    let l = c .before .before .before in
+    (omega arith, sym (finite-turn (l .before .before .args .s .now) (l .loop .place) (l .loop .left) (search needs) (rw (← c .before .finite-at .ensures) (c .if1 .left))) ∙ l .loop .inv .1)
 
 returns-2 : tie.Need-returns-2 Inv-loop μ-loop
 returns-2 c =
@@ -42,7 +42,6 @@ numbers-finite-spec =
     μ-loop
     loop-holds
     (λ c κs. search needs)
-    (λ c κs. tt)
     returns
     (λ c. search needs)
     (λ c. search needs)

@@ -1,7 +1,6 @@
 -- What is returned follows from the tests and the calls on the way, in their order. Assumes nothing.
 use lib.Ieee.{ofBits}
 use Rattle.numbers.specs.Arithmetic.{decimal}
-use borrow.Author.Tests.{ne-eqb, eq-eqb}
 use Rattle.surfaces.specs.Newton.{nextPass}
 use Rattle.surfaces.proofs.surface.next_pass.Statement.{statement}
 use Rattle.surfaces.proofs.surface.next_pass.Tie as tie
@@ -12,16 +11,12 @@ next-pass-spec =
     tie.close
     (tie.spec
     (λ c κs. tt)
+    (λ c κs. tt)
     (λ c.
-    let c1 = c .before in
-    rw (ne-eqb _ 0 (c1 .if1 .taken), ← c .pass-at .ensures))
+    let c1 = c .before in let c2 = c1 .before in
+    rw (← c2 .abs .ensures, c1 .if1 .taken, ← c .missed .ensures))
     (λ c κs. tt)
     (λ c κs. tt)
     (λ c.
     let c1 = c .before in let c2 = c1 .before in let c3 = c2 .before in
-    rw (eq-eqb _ 0 (c3 .if1 .left), ← c2 .abs .ensures, c1 .if2 .taken, ← c .missed .ensures))
-    (λ c κs. tt)
-    (λ c κs. tt)
-    (λ c.
-    let c1 = c .before in let c2 = c1 .before in let c3 = c2 .before in let c4 = c3 .before in
-    rw (eq-eqb _ 0 (c4 .if1 .left), ← c3 .abs .ensures, c2 .if2 .left, ← c1 .vertex-plane .ensures, ← c .pass-at2 .ensures)))
+    rw (← c3 .abs .ensures, c2 .if1 .left, ← c1 .pass-start .ensures, ← c .pass-at .ensures)))

@@ -1,13 +1,15 @@
-//! The Rust text as the oracle takes it, and the archive of the proved functions.
+//! The Rust text as the oracle takes it, and the archives of the proved functions.
 
 #[path = "../../oracle/build.rs"]
 mod text;
 
 fn main() {
     text::main();
-    let archive = std::env::var("MEASURED").expect("MEASURED names the folder with libmeasured.a");
+    let archives = std::env::var("MEASURED").expect("MEASURED names the folder with the archives");
     println!("cargo:rerun-if-env-changed=MEASURED");
-    println!("cargo:rerun-if-changed={archive}/libmeasured.a");
-    println!("cargo:rustc-link-search=native={archive}");
-    println!("cargo:rustc-link-lib=static=measured");
+    println!("cargo:rustc-link-search=native={archives}");
+    for name in ["measured", "traced"] {
+        println!("cargo:rerun-if-changed={archives}/lib{name}.a");
+        println!("cargo:rustc-link-lib=static={name}");
+    }
 }

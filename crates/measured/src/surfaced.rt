@@ -18,7 +18,7 @@ use surfaces::Vec3;
 use surfaces::intersect_conic;
 use surfaces::snell_refract;
 
-fn ray_of(ox: f64, oy: f64, oz: f64, dx: f64, dy: f64, dz: f64) -> Ray
+pub fn ray_of(ox: f64, oy: f64, oz: f64, dx: f64, dy: f64, dz: f64) -> Ray
     ensures { λ r. ⌜ r ≡ rayOf ox oy oz dx dy dz ⌝ }
 {
     Ray {

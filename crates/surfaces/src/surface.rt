@@ -203,7 +203,11 @@ fn vertex_plane(vertex: f64, ray: Ray) -> f64
 fn pass_start(vertex: f64, ray: Ray, made: u16, t: f64) -> f64
     ensures { λ u. ⌜ u ≡ passStart vertex ray made t ⌝ }
 {
-    if made == 0 { vertex_plane(vertex, ray) } else { t }
+    if made == 0 {
+        vertex_plane(vertex, ray)
+    } else {
+        t
+    }
 }
 
 // The pass after `made` passes. It has one place where it passes, so that the compiler can put that here.

@@ -8,7 +8,7 @@ use lib.ListN.{length, take}
 use lib.Seq.{getD-take, length-take-le}
 use lib.Dec.{leb}
 use borrow.Author.Tests.{le-leb}
-use Rattle.recipe.specs.Bytes.{u16At, u64At, numberAt, numbersAt}
+use Rattle.recipe.specs.Endian.{u16At, u64At, numberAt, numbersAt}
 use Rattle.recipe.specs.Record.{Read, bad, good, lengthAt, kindAt, slotAt, lengthFits, shapedAt, semiSlot, kindOf, coefficientCount, coefficientsAt, opticAt, recordAt}
 use Rattle.recipe.specs.Scan.{onRead, scan}
 use Rattle.recipe.specs.Length.{longest, RefusedAlike, TooLong}

@@ -4,7 +4,7 @@ use native.Mathlib.Nat.{not-suc-le-zero, add-zero}
 use native.Mathlib.Numerals.{add-one}
 use native.Mathlib.Omega.{arith}
 use mathlib.Core.Path.{_≡_, refl, sym, _∙_, ap}
-use mathlib.Core.Bool.{Bool, true, false, not, _&&_, true≢false, false≢true}
+use mathlib.Core.Bool.{true, false, not}
 use mathlib.Core.List.{List, [], _∷_, _++_}
 use lib.ListN.{length, set, replicate}
 use lib.Seq.{set-at, append-snoc}
@@ -12,17 +12,9 @@ use lib.Ieee.{Float}
 use lib.Ieee.Scale.{finite}
 use Rattle.numbers.specs.Arithmetic.{0f}
 use Rattle.surfaces.specs.Types.{everyFinite}
-use Rattle.recipe.specs.Bytes.{numberAt, numbersAt}
+use Rattle.recipe.specs.Endian.{numberAt, numbersAt}
 use Rattle.recipe.specs.Record.{coefficientsAt}
-use Rattle.recipe.proofs.Shapes.{both}
-
-goes-on : (t rest : Bool) → not t ≡ false → (t && rest) ≡ rest
-goes-on true rest e = refl
-goes-on false rest e = absurd (true≢false e)
-
-stops : (t rest : Bool) → not t ≡ true → (t && rest) ≡ false
-stops true rest e = absurd (false≢true e)
-stops false rest e = refl
+use Rattle.surfaces.proofs.Choice.{both, goes-on, ends-there}
 
 module _ (b : List ℕ) (at : ℕ) where
   pub finite-turn : (n : ℕ) → 0 < n → not (finite (numberAt b at)) ≡ false → everyFinite (numbersAt b at n) ≡ everyFinite (numbersAt b (at + 8) (n - 1))
@@ -33,7 +25,7 @@ module _ (b : List ℕ) (at : ℕ) where
   pub finite-stop : (n : ℕ) → 0 < n → not (finite (numberAt b at)) ≡ true → everyFinite (numbersAt b at n) ≡ false
   unfolding everyFinite numbersAt
   finite-stop zero h e = absurd (not-suc-le-zero h)
-  finite-stop (suc n) h e = stops (finite (numberAt b at)) _ e
+  finite-stop (suc n) h e = ends-there (finite (numberAt b at)) _ e
 
   pub finite-end : (n : ℕ) → n ≤ 0 → everyFinite (numbersAt b at n) ≡ true
   unfolding everyFinite numbersAt

@@ -3,7 +3,7 @@ use Prim.Native.Nat.{ℕ, zero, suc, _+_, _/_, _%_}
 use mathlib.Core.Path.{_≡_, refl}
 use mathlib.Core.Bool.{Bool, true, false, not, cond}
 use lib.Dec.{eqb, leb}
-use lib.Ieee.{Float, nan, inf, fin, binary64, ofBits, ofFields, odd, hid, low, top}
+use lib.Ieee.{Float, nan, inf, binary64, ofBits, ofFields, odd, hid, low, top}
 use lib.Ieee.Scale.{finite}
 
 odd-finite : (d : ℕ) (s : Bool) (q k l : ℕ) → finite (odd d s q k l) ≡ true

@@ -15,7 +15,7 @@ use Rattle.surfaces.specs.declared.surface.Kind.{Kind}
 use Rattle.surfaces.specs.declared.surface.Kind.the-variants.{Conic, Even, Biconic, Toroid}
 use Rattle.surfaces.proofs.Choice.{either}
 use Rattle.recipe.specs.declared.record.Optic.{Optic}
-use Rattle.recipe.specs.Bytes.{numbersAt}
+use Rattle.recipe.specs.Endian.{numbersAt}
 use Rattle.recipe.specs.Record.{Read, bad, good, lengthAt, kindAt, slotAt, shapedAt, semiSlot, opticAt, negativeSemi, recordAt, readAt}
 use Rattle.recipe.proofs.Numbers.{finite-at}
 use Rattle.recipe.proofs.Shapes.{shape}

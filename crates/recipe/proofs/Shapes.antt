@@ -1,14 +1,14 @@
 -- What the shape of a record tells of its places: all that is read of it lies within it, and it within the recipe. Assumes nothing.
 use Prim.Native.Nat.{ℕ, _+_, _-_, _*_, _/_, _%_, _≤_}
 use mathlib.Core.Path.{_≡_, refl}
-use mathlib.Core.Bool.{Bool, true, false, _&&_, false≢true}
+use mathlib.Core.Bool.{Bool, true, false, _&&_}
 use mathlib.Core.List.{List}
 use native.Mathlib.Omega.{arith}
 use lib.ListN.{length}
 use lib.Dec.{eqb, leb, lit≤}
 use borrow.Author.Tests.{leb-true, leb-false, eqb-true, le-leb, lt-leb}
 use Rattle.numbers.specs.Arithmetic.{if_then_else_}
-use Rattle.surfaces.proofs.Choice.{either}
+use Rattle.surfaces.proofs.Choice.{either, both}
 use Rattle.recipe.specs.Source.{isSource}
 use Rattle.recipe.specs.Record.{lengthAt, kindAt, lengthFits, shapedAt, semiSlot, coefficientCount}
 
@@ -43,10 +43,6 @@ room-test n at k h = by (leb (at + 2 + k) n) refl
     by : (t : Bool) → leb (at + 2 + k) n ≡ t → leb (2 + k) (n - at) ≡ t
     by true e = le-leb (2 + k) (n - at) (omega (arith, leb-true (at + 2 + k) n e))
     by false e = lt-leb (2 + k) (n - at) (omega (arith, leb-false (at + 2 + k) n e))
-
-pub both : (a b : Bool) → (a && b) ≡ true → (a ≡ true) × (b ≡ true)
-both true b h = (refl, h)
-both false b h = absurd (false≢true h)
 
 fitting : (kind len : ℕ) → 42 ≤ len → len ≤ 106 → len % 8 ≡ 2 → 10 + 8 * semiSlot kind ≤ len → Fitting kind len
 unfolding coefficientCount

@@ -1,4 +1,4 @@
-pub mod Bytes
+pub mod Endian
 pub mod Record
 pub mod Scan
 pub mod Length

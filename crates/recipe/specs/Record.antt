@@ -12,7 +12,7 @@ use Rattle.surfaces.specs.declared.surface.Kind.{Kind}
 use Rattle.surfaces.specs.declared.surface.Kind.the-variants.{Conic, Even, Biconic, Toroid}
 use Rattle.recipe.specs.declared.record.Optic.{Optic}
 use Rattle.recipe.specs.declared.record.Record.{Record}
-use Rattle.recipe.specs.Bytes.{u16At, numberAt, numbersAt}
+use Rattle.recipe.specs.Endian.{u16At, numberAt, numbersAt}
 
 -- how many bytes follow a record's length, and its kind
 abbrev pub lengthAt : List ℕ → ℕ → ℕ

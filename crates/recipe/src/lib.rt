@@ -1,6 +1,6 @@
 // A recipe's bytes: the record at a place, and a check of the whole. No function asks anything of its caller, and each says what it
 // answers to every argument.
-mod bytes;
+mod endian;
 mod record;
 mod scan;
 mod source;

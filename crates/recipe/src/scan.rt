@@ -2,8 +2,8 @@
 ghost use mathlib.Core.Path.{_≡_};
 ghost use Rattle.recipe.specs.Scan.{seenOf, checkOf, failed};
 ghost use Rattle.recipe.specs.Record.{negativeSemi, recordAt};
-use crate::bytes::numbers_finite;
-use crate::bytes::u16_at;
+use crate::endian::numbers_finite;
+use crate::endian::u16_at;
 use crate::record::is_shaped;
 use crate::record::kind_at;
 use crate::record::semi_slot;

@@ -3,7 +3,7 @@ ghost use mathlib.Core.Path.{_≡_};
 ghost use lib.ListN.{length};
 ghost use Prim.Native.Nat.{_+_, _*_, _≤_};
 ghost use Rattle.recipe.specs.Source.{isSource, vectorAt, sourceOf};
-use crate::bytes::u16_at;
+use crate::endian::u16_at;
 use crate::record::slot;
 use surfaces::Ray;
 use surfaces::Vec3;

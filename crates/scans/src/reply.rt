@@ -6,9 +6,7 @@ use lines::put_word;
 use lines::write_line;
 use trace::Answer;
 use trace::State;
-
-// The numbers of a record.
-const WIDTH: usize = 13;
+use trace::WIDTH;
 
 pub(crate) fn print_unreadable() -> bool {
     let mut line = [0u8; 2];

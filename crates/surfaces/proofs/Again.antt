@@ -12,10 +12,6 @@ use Rattle.numbers.specs.Sqrt.{root}
 use Rattle.surfaces.specs.Types.{sameAbove0, rootAgain}
 use Rattle.surfaces.proofs.Choice.{either}
 
-pub both : (a b : Bool) → (a && b) ≡ true → (a ≡ true) × (b ≡ true)
-both true b h = (refl, h)
-both false b h = absurd (false≢true h)
-
 abbrev Fits : Float → Type 0
 Fits x = T (fits binary64 x)
 

@@ -26,7 +26,7 @@ use Rattle.surfaces.specs.declared.surface.Kind.the-variants.{Conic, Eve
 use Rattle.surfaces.specs.declared.surface.Surface.{Surface}
 use Rattle.surfaces.specs.declared.surface.Boundary.{Boundary}
 use Rattle.surfaces.specs.declared.surface.Boundary.the-variants.{Mirror, Media}
-use Rattle.surfaces.proofs.Choice.{either}
+use Rattle.surfaces.proofs.Choice.{either, or-else}
 use Rattle.surfaces.proofs.Passes.{more}
 
 -- numbers of what has ended, and of a pass, which may go on
@@ -41,10 +41,6 @@ record Tells (some : ℕ → Bool) (l : Line) : Type 0 where
 
 either-tells : {A : Type 0} (some : ℕ → Bool) (b : Bool) (x y : Told A) → Tells some (x .line) → Tells some (y .line) → Tells some ((if b then x else y) .line)
 either-tells some b x y p q = either (λ z. Tells some (z .line)) b x y p q
-
-or-else : (a b : Bool) → b ≡ true → (a || b) ≡ true
-or-else true b h = refl
-or-else false b h = h
 
 of-a-pass : (l : Line) → Tells ended l → Tells passed l
 of-a-pass l e = record { told = or-else (eqb (l .number) 0) _ (e .told) }

@@ -1,7 +1,7 @@
 -- What is left of the coefficients at i: the one that stands there and the rest, or none past the count or the end. Assumes nothing.
 use Prim.Native.Nat.{ℕ, _+_, _<_, _≤_, min}
-use mathlib.Core.Path.{_≡_, refl}
-use mathlib.Core.Bool.{Bool, true, false, not, _&&_, true≢false, false≢true}
+use mathlib.Core.Path.{_≡_}
+use mathlib.Core.Bool.{true, false, not}
 use mathlib.Core.List.{List, [], _∷_}
 use native.Mathlib.Numerals.{add-one}
 use native.Mathlib.Omega.{arith}
@@ -13,14 +13,7 @@ use lib.Ieee.Scale.{finite}
 use Rattle.numbers.specs.Arithmetic.{_+₆₄_, _*₆₄_, 2f}
 use Rattle.surfaces.specs.Types.{everyFinite}
 use Rattle.surfaces.specs.Asphere.{powerSumFrom, slopeSumFrom, firstOr0}
-
-goes-on : (b rest : Bool) → not b ≡ false → (b && rest) ≡ rest
-goes-on true rest e = refl
-goes-on false rest e = absurd (true≢false e)
-
-stops : (b rest : Bool) → not b ≡ true → (b && rest) ≡ false
-stops true rest e = absurd (false≢true e)
-stops false rest e = refl
+use Rattle.surfaces.proofs.Choice.{goes-on, ends-there}
 
 module _ (a : List Float) (n i : ℕ) where
   here : i < n → i < length a → drop i (take n a) ≡ getD a i nan ∷ drop (i + 1) (take n a)
@@ -37,7 +30,7 @@ module _ (a : List Float) (n i : ℕ) where
 
   pub finite-stop : i < n → i < length a → not (finite (getD a i nan)) ≡ true → everyFinite (drop i (take n a)) ≡ false
   unfolding everyFinite
-  finite-stop h k e = rw (here h k) (stops (finite (getD a i nan)) _ e)
+  finite-stop h k e = rw (here h k) (ends-there (finite (getD a i nan)) _ e)
 
   pub finite-end : min n (length a) ≤ i → everyFinite (drop i (take n a)) ≡ true
   unfolding everyFinite

@@ -24,7 +24,7 @@ use Rattle.trace.specs.declared.state.State.{State}
 use Rattle.trace.specs.Leg.{width}
 use Rattle.trace.specs.Unbroken.{unbroken, total}
 use Rattle.trace.specs.State.{Held, held, move, advance, fitsOf}
-use Rattle.trace.specs.Trace.{Reply, recipeOf, itemsOf, opticsOf, blank, standing, beamOf, firstState, accept, startAt, startOf, continueOn, continueOf}
+use Rattle.trace.specs.Trace.{mostRecords, Reply, recipeOf, itemsOf, opticsOf, blank, standing, beamOf, firstState, accept, startAt, startOf, continueOn, continueOf}
 use Rattle.trace.specs.Ready.{Stands, walking, arrived, Fit}
 use Rattle.trace.specs.Demand3.{calls, sum, stateAt, traceOf, Kept, called, Demand3}
 use Rattle.trace.proofs.Steps.{advance-add, move-ended}
@@ -36,17 +36,17 @@ use Rattle.trace.proofs.Starts.{Admitted, admitted-by, admitted-is}
 
 -- what an advance keeps
 module _ (y : List ℕ) (l : List Item) (ch : Chain y 0 l) where
-  pub record Sound (size : ℕ) (h : Held) : Type 0 where
+  pub record Genuine (size : ℕ) (h : Held) : Type 0 where
     pub fit : Fit l (length y) (h .state)
     pub long : length (h .buffer) ≡ size
 
-  sound-move : (size : ℕ) (h : Held) → Sound size h → (t : Bool) → eqb (h .state .outcome) 0 ≡ t → Sound size (move l h)
+  sound-move : (size : ℕ) (h : Held) → Genuine size h → (t : Bool) → eqb (h .state .outcome) 0 ≡ t → Genuine size (move l h)
   sound-move size h s true e =
       let run = eqb-true (h .state .outcome) 0 e in
       record { fit = fit-move y l ch h (s .fit) run; long = length-move y l ch h (s .fit) run ∙ s .long }
   sound-move size h s false e = rw (move-ended l h (eqb-false (h .state .outcome) 0 e)) s
 
-  pub sound-advance : (size n : ℕ) (h : Held) → Sound size h → Sound size (advance l n h)
+  pub sound-advance : (size n : ℕ) (h : Held) → Genuine size h → Genuine size (advance l n h)
   unfolding advance
   sound-advance size zero h s = s
   sound-advance size (suc n) h s = sound-advance size n (move l h) (sound-move size h s _ refl)
@@ -72,7 +72,7 @@ module _ (y : List ℕ) (ray : Ray) (index : Float) (z : List Float) (a : Admitt
   pub chain : Chain y 0 l
   chain = chain-of y (a .good)
 
-  pub sound : (n : ℕ) → Sound y l chain (length z) (advance l n first)
+  pub sound : (n : ℕ) → Genuine y l chain (length z) (advance l n first)
   sound n =
       sound-advance y l chain (length z) n first
       (record { fit = record { beam = a .beam; place = sym (place-first y chain); stands = first-stands l b }; long = length-replicate (length z) 0f })
@@ -126,7 +126,7 @@ module _ (y : List ℕ) (ray : Ray) (index : Float) (z : List Float) (a : Admitt
 module _ (y : List ℕ) (ray : Ray) (index : Float) (z : List Float) (h : startOf y ray index z .answer .number ≡ 1) where
   pub admitted-start : Admitted (recipeOf y) ray index (blank z)
   unfolding startOf startAt
-  admitted-start = admitted-by 0 ray index (blank z) (recipeOf y) (scan-sound y 512 0) _ h
+  admitted-start = admitted-by 0 ray index (blank z) (recipeOf y) (scan-sound y mostRecords 0) _ h
 
   started : startOf y ray index z ≡ accept (held (firstState (length (itemsOf y)) (beamOf ray index)) (blank z))
   unfolding startOf startAt

@@ -8,7 +8,7 @@ use Rattle.surfaces.specs.Types.{dotOf, overOf, distance, pointAt, allFinite, r
 use Rattle.surfaces.specs.Snell.{turnedIf, negatedIf, bent, refracted}
 use Rattle.surfaces.specs.Conic.{landedWithin, planeCrossing, conicCrossing, conicNormal, gradientNormal, normalAt}
 use Rattle.surfaces.specs.Surface.{surfaceEnd, surfaceNormal, onwardFrom, turnRule}
-use Rattle.recipe.specs.Bytes.{u16At, u64At, numberAt, numbersAt}
+use Rattle.recipe.specs.Endian.{u16At, u64At, numberAt, numbersAt}
 use Rattle.recipe.specs.Record.{slotAt, lengthFits, shapedAt, semiSlot, kindOf, coefficientCount, coefficientsAt, opticAt, recordAt}
 use Rattle.recipe.specs.Scan.{scan, placeOf}
 use Rattle.recipe.specs.Source.{isSource, vectorAt, sourceOf}

@@ -2,7 +2,7 @@
 use Prim.Native.Nat.{ℕ, _+_, _*_, _≤_, _<_}
 use mathlib.Core.Path.{_≡_, refl, sym, _∙_, ap, subst}
 use mathlib.Core.List.{List}
-use mathlib.Core.Bool.{Bool, true, false, not, _&&_, _||_, false≢true}
+use mathlib.Core.Bool.{Bool, true, false, not, _&&_, _||_}
 use native.Mathlib.Omega.{arith}
 use native.Mathlib.Numerals.{add-one}
 use lib.ListN.{length}
@@ -17,7 +17,7 @@ use Rattle.surfaces.specs.Told.{Told, done, stops}
 use Rattle.surfaces.specs.Newton.{going}
 use Rattle.surfaces.specs.Surface.{passRule, limitOf}
 use Rattle.surfaces.specs.declared.types.Landing.{Landing}
-use Rattle.surfaces.proofs.Choice.{either}
+use Rattle.surfaces.proofs.Choice.{either, both, or-else}
 use Rattle.surfaces.proofs.Stops.{pass-stops, pass-limit}
 use Rattle.recipe.specs.declared.record.Optic.{Optic}
 use Rattle.recipe.specs.declared.scan.Checked.{Checked}
@@ -33,18 +33,6 @@ use Rattle.trace.specs.State.{Held, held, pausedAt, stateAfter, surfaceL
 use Rattle.trace.specs.Ready.{Stands, walking, arrived, stopped, Fit}
 use Rattle.trace.proofs.Endings.{leg-stops, leg-finite}
 
-pub and-l : (a b : Bool) → (a && b) ≡ true → a ≡ true
-and-l true b h = refl
-and-l false b h = h
-
-pub and-r : (a b : Bool) → (a && b) ≡ true → b ≡ true
-and-r true b h = h
-and-r false b h = absurd (false≢true h)
-
-or-else : (a b : Bool) → b ≡ true → (a || b) ≡ true
-or-else true b h = refl
-or-else false b h = h
-
 -- a beam after a hit
 module _ (o : Optic) (b : Beam) (g : Leg) where
   abbrev IndexGood : Float → Type 0
@@ -52,16 +40,16 @@ module _ (o : Optic) (b : Beam) (g : Leg) where
 
   index-before : beamGood b ≡ true → IndexGood (b .index)
   unfolding beamGood
-  index-before h = (and-r (rayFinite (b .ray) && finite (b .path)) _ (and-l _ (not (b .index ≤₆₄ 0f)) h), not-true (b .index ≤₆₄ 0f) (and-r (rayFinite (b .ray) && finite (b .path) && finite (b .index)) _ h))
+  index-before h = (both (rayFinite (b .ray) && finite (b .path)) _ (both _ (not (b .index ≤₆₄ 0f)) h .0) .1, not-true (b .index ≤₆₄ 0f) (both (rayFinite (b .ray) && finite (b .path) && finite (b .index)) _ h .1))
 
   beam-good : legFinite g ≡ true → beamGood b ≡ true → IndexGood (o .index) → beamGood (beamAfter o b g) ≡ true
   unfolding legFinite beamGood beamAfter rayFinite
   beam-good h before after =
       let n : IndexGood (if o .mirror then b .index else o .index) = either IndexGood (o .mirror) (b .index) (o .index) (index-before before) after in
-      let path : finite (g .path) ≡ true = and-r (finite (g .t) && allFinite (g .point) && allFinite (g .normal) && allFinite (g .direction)) _ h in
-      let rest = and-l (finite (g .t) && allFinite (g .point) && allFinite (g .normal) && allFinite (g .direction)) _ h in
-      let direction : allFinite (g .direction) ≡ true = and-r (finite (g .t) && allFinite (g .point) && allFinite (g .normal)) _ rest in
-      let point : allFinite (g .point) ≡ true = and-r (finite (g .t)) _ (and-l _ (allFinite (g .normal)) (and-l _ (allFinite (g .direction)) rest)) in
+      let path : finite (g .path) ≡ true = both (finite (g .t) && allFinite (g .point) && allFinite (g .normal) && allFinite (g .direction)) _ h .1 in
+      let rest = both (finite (g .t) && allFinite (g .point) && allFinite (g .normal) && allFinite (g .direction)) _ h .0 in
+      let direction : allFinite (g .direction) ≡ true = both (finite (g .t) && allFinite (g .point) && allFinite (g .normal)) _ rest .1 in
+      let point : allFinite (g .point) ≡ true = both (finite (g .t)) _ (both _ (allFinite (g .normal)) (both _ (allFinite (g .direction)) rest .0) .0) .1 in
       rw (point, direction, path, n .0, n .1)
 
 -- the steps of a state that has not ended
@@ -149,7 +137,7 @@ module _ (n : ℕ) where
     where
       by : (t : Bool) → eqb n 2 ≡ t → (t || high) ≡ true → ((leb n 2 || high) ≡ true) × (n ≡ 0 → ⊥) × (n ≡ 1 → ⊥)
       by true e h = let q = eqb-true n 2 e in (rw (le-leb n 2 (omega arith)), λ z. omega arith, λ z. omega arith)
-      by false e h = let q = leb-true 4 n (and-l (leb 4 n) (leb n 9) h) in (or-else (leb n 2) high h, λ z. omega arith, λ z. omega arith)
+      by false e h = let q = leb-true 4 n (both (leb 4 n) (leb n 9) h .0) in (or-else (leb n 2) high h, λ z. omega arith, λ z. omega arith)
 
 -- what a check notes of the surface that a state is at
 module _ (l : List Item) (end : ℕ) (s : State) where
@@ -170,24 +158,24 @@ module _ (l : List Item) (end : ℕ) (s : State) where
   module _ (h : fitsOf c end s ≡ true) where
     beam : beamGood (s .beam) ≡ true
     unfolding fitsOf
-    beam = and-r (outcomeKnown (s .outcome) && placeFits c end s && passesFit c s && leb (s .steps) (c .limits)) _ h
+    beam = both (outcomeKnown (s .outcome) && placeFits c end s && passesFit c s && leb (s .steps) (c .limits)) _ h .1
 
     steps : leb (s .steps) (c .limits) ≡ true
     unfolding fitsOf
-    steps = and-r (outcomeKnown (s .outcome) && placeFits c end s && passesFit c s) _ (and-l _ (beamGood (s .beam)) h)
+    steps = both (outcomeKnown (s .outcome) && placeFits c end s && passesFit c s) _ (both _ (beamGood (s .beam)) h .0) .1
 
     few : (outcomeKnown (s .outcome) && placeFits c end s && passesFit c s) ≡ true
     unfolding fitsOf
-    few = and-l _ (leb (s .steps) (c .limits)) (and-l _ (beamGood (s .beam)) h)
+    few = both _ (leb (s .steps) (c .limits)) (both _ (beamGood (s .beam)) h .0) .0
 
     passes : passesFit c s ≡ true
-    passes = and-r (outcomeKnown (s .outcome) && placeFits c end s) _ few
+    passes = both (outcomeKnown (s .outcome) && placeFits c end s) _ few .1
 
     place : placeFits c end s ≡ true
-    place = and-r (outcomeKnown (s .outcome)) _ (and-l _ (passesFit c s) few)
+    place = both (outcomeKnown (s .outcome)) _ (both _ (passesFit c s) few .0) .1
 
     known : outcomeKnown (s .outcome) ≡ true
-    known = and-l _ (placeFits c end s) (and-l _ (passesFit c s) few)
+    known = both _ (placeFits c end s) (both _ (passesFit c s) few .0) .0
 
     pub few-steps : s .steps ≤ sumLimits l
     few-steps = subst (λ (k : ℕ). s .steps ≤ k) limits-is (leb-true _ _ steps)
@@ -198,14 +186,14 @@ module _ (l : List Item) (end : ℕ) (s : State) where
         → (s .place ≡ placeOf l end (s .number)) × Stands l s
     by-outcome true e true f p q = absurd (omega (arith, eqb-true (s .outcome) 1 e, eqb-true (s .outcome) 0 f))
     by-outcome true e false f p q =
-        let n : s .number ≡ length l = eqb-true _ _ (and-l _ (eqb (s .place) end) p) ∙ count-is in
-        (eqb-true _ _ (and-r (eqb (s .number) (c .count)) _ p) ∙ sym (ap (λ (k : ℕ). placeOf l end k) n ∙ place-end l end), arrived (eqb-true _ _ e) n (eqb-true _ _ q))
+        let n : s .number ≡ length l = eqb-true _ _ (both _ (eqb (s .place) end) p .0) ∙ count-is in
+        (eqb-true _ _ (both (eqb (s .number) (c .count)) _ p .1) ∙ sym (ap (λ (k : ℕ). placeOf l end k) n ∙ place-end l end), arrived (eqb-true _ _ e) n (eqb-true _ _ q))
     by-outcome false e true f p q =
-        let n : s .number < length l = subst (λ (k : ℕ). s .number < k) count-is (ltb-true _ _ (and-l _ (eqb (s .place) (c .found)) p)) in
-        (eqb-true _ _ (and-r (ltb (s .number) (c .count)) _ p) ∙ found-is n .0, walking (eqb-true _ _ f) n (subst (λ (k : ℕ). s .passes < k) (found-is n .1) (ltb-true _ _ q)))
+        let n : s .number < length l = subst (λ (k : ℕ). s .number < k) count-is (ltb-true _ _ (both _ (eqb (s .place) (c .found)) p .0)) in
+        (eqb-true _ _ (both (ltb (s .number) (c .count)) _ p .1) ∙ found-is n .0, walking (eqb-true _ _ f) n (subst (λ (k : ℕ). s .passes < k) (found-is n .1) (ltb-true _ _ q)))
     by-outcome false e false f p q =
-        let n : s .number < length l = subst (λ (k : ℕ). s .number < k) count-is (ltb-true _ _ (and-l _ (eqb (s .place) (c .found)) p)) in
-        (eqb-true _ _ (and-r (ltb (s .number) (c .count)) _ p) ∙ found-is n .0, stopped (known-stops (s .outcome) known (eqb-false _ _ f) (eqb-false _ _ e)) n (eqb-true _ _ q))
+        let n : s .number < length l = subst (λ (k : ℕ). s .number < k) count-is (ltb-true _ _ (both _ (eqb (s .place) (c .found)) p .0)) in
+        (eqb-true _ _ (both (ltb (s .number) (c .count)) _ p .1) ∙ found-is n .0, stopped (known-stops (s .outcome) known (eqb-false _ _ f) (eqb-false _ _ e)) n (eqb-true _ _ q))
 
     pub fits-fit : Fit l end s
     unfolding placeFits passesFit

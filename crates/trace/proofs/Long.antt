@@ -17,17 +17,17 @@ use Rattle.recipe.specs.Source.{sourceOf}
 use Rattle.recipe.proofs.Scans.{Sound, scan-sound}
 use Rattle.recipe.proofs.Length.{too-long}
 use Rattle.recipe.proofs.Sources.{source-take}
-use Rattle.trace.specs.Trace.{blank, refusedAnswer, startAt, startOf, startFileOf}
+use Rattle.trace.specs.Trace.{mostRecords, blank, refusedAnswer, startAt, startOf, startFileOf}
 use Rattle.trace.specs.Long.{Long}
 
 module _ (b : List ℕ) (long : 55296 < length b) (base : ℕ) (ray : Ray) (index : Float) (z : List Float) where
   alike : startAt base b ray index z ≡ startAt base (take 55297 b) ray index z
   unfolding startAt
-  alike = let r = too-long b 512 long in rw (r .one, r .other)
+  alike = let r = too-long b mostRecords long in rw (r .one, r .other)
 
   off : startAt base b ray index z .answer .number ≢ 1
   unfolding startAt refusedAnswer
-  off = let r = too-long b 512 long in rw (r .one) (subst Sound (r .one) (scan-sound b 512 0))
+  off = let r = too-long b mostRecords long in rw (r .one) (subst Sound (r .one) (scan-sound b mostRecords 0))
 
 drop-take : (k n : ℕ) (l : List ℕ) → drop k (take (k + n) l) ≡ take n (drop k l)
 drop-take zero n l = rw (zero-add n)

@@ -13,6 +13,7 @@ use borrow.Author.Tests.{eq-eqb, ne-eqb, lt-ltb, le-ltb, eqb-true, eqb-false, lt
 use Rattle.numbers.specs.Arithmetic.{_≤₆₄_, if_then_else_, 0f, decimal}
 use Rattle.surfaces.specs.Types.{rayFinite}
 use Rattle.surfaces.specs.declared.types.Ray.{Ray}
+use Rattle.surfaces.proofs.Choice.{both}
 use Rattle.recipe.specs.declared.scan.Checked.{Checked}
 use Rattle.recipe.specs.Scan.{Item, Scan, refused, items, notes, nothing, says, checkOf, itemsIn, sumLimits}
 use Rattle.recipe.proofs.Notes.{notes-number, notes-count}
@@ -22,9 +23,9 @@ use Rattle.trace.specs.declared.state.State.{State}
 use Rattle.trace.specs.declared.run.Answer.{Answer}
 use Rattle.trace.specs.Leg.{width}
 use Rattle.trace.specs.State.{Held, held, advance, beamGood, fitsOf}
-use Rattle.trace.specs.Trace.{Reply, reply, blank, recipeOf, itemsOf, beamOf, firstState, refusedAnswer, refusedReply, admission, admitted, begunOf, startAt, accept, continueOn, continueOf}
+use Rattle.trace.specs.Trace.{mostRecords, Reply, reply, blank, recipeOf, itemsOf, beamOf, firstState, refusedAnswer, refusedReply, admission, admitted, begunOf, startAt, accept, continueOn, continueOf}
 use Rattle.trace.specs.Ready.{Fit, Ready}
-use Rattle.trace.proofs.Fits.{and-l, and-r, fits-fit, few-steps}
+use Rattle.trace.proofs.Fits.{fits-fit, few-steps}
 
 -- what a check says of the recipe
 pub data Seen (w : ℕ) (c : Checked) : Scan → Type 0 where
@@ -36,9 +37,9 @@ see-scan w c (refused n p) h e = seen-bad (ap (λ (k : Checked). k .number) e) (
 see-scan w c (items l) h e =
     seen-good e (ap (λ (k : Checked). k .number) e ∙ notes-number w nothing l) (let q = ap (λ (k : Checked). k .count) e in omega (arith, q, notes-count w nothing l))
 
-pub see : (b : List ℕ) (w : ℕ) (c : Checked) → c ≡ checkOf b 512 w → Seen w c (recipeOf b)
+pub see : (b : List ℕ) (w : ℕ) (c : Checked) → c ≡ checkOf b mostRecords w → Seen w c (recipeOf b)
 unfolding checkOf
-see b w c e = see-scan w c (recipeOf b) (scan-sound b 512 0) e
+see b w c e = see-scan w c (recipeOf b) (scan-sound b mostRecords 0) e
 
 -- an answer and the buffer beside it
 beside : (z : List Float) (accept : Answer) (n : ℕ) (t : Bool)
@@ -54,7 +55,7 @@ begun c (items l) (seen-good e n k) base ray index z =
     let a = admission ray index (length z) (length l) in
     rw (eq-eqb (c .number) 1 n, k) (beside z (record { number = 1; place = 0; state = firstState (length l) (beamOf ray index) }) a (eqb a 1))
 
-pub start-is : (b : List ℕ) (c : Checked) → c ≡ checkOf b 512 0 → (base : ℕ) (ray : Ray) (index : Float) (z y : List Float) (a : Answer) → y ≡ blank z
+pub start-is : (b : List ℕ) (c : Checked) → c ≡ checkOf b mostRecords 0 → (base : ℕ) (ray : Ray) (index : Float) (z y : List Float) (a : Answer) → y ≡ blank z
     → a ≡ begunOf c base ray index (length y) → record { answer = a; buffer = y } ≡ startAt base b ray index z
 unfolding startAt
 start-is b c e base ray index z y a blanked q = rw (q, blanked) (begun c (recipeOf b) (see b 0 c e) base ray index (blank z))
@@ -63,9 +64,9 @@ start-is b c e base ray index z y a blanked q = rw (q, blanked) (begun c (recipe
 index-of : (ray : Ray) (index : Float) → beamGood (beamOf ray index) ≡ true → ((rayFinite ray && finite index) ≡ true) × ((index ≤₆₄ 0f) ≡ false)
 unfolding beamGood
 index-of ray index h =
-    let r = and-l (rayFinite ray) _ (and-l _ (finite index) (and-l _ (not (index ≤₆₄ 0f)) h)) in
-    let i = and-r (rayFinite ray && finite 0f) _ (and-l _ (not (index ≤₆₄ 0f)) h) in
-    (rw (r, i), not-true (index ≤₆₄ 0f) (and-r (rayFinite ray && finite 0f && finite index) _ h))
+    let r = both (rayFinite ray) _ (both _ (finite index) (both _ (not (index ≤₆₄ 0f)) h .0) .0) .0 in
+    let i = both (rayFinite ray && finite 0f) _ (both _ (not (index ≤₆₄ 0f)) h .0) .1 in
+    (rw (r, i), not-true (index ≤₆₄ 0f) (both (rayFinite ray && finite 0f && finite index) _ h .1))
 
 abbrev IsItems : Scan → Type 0
 IsItems (refused n p) = ⊥
@@ -83,7 +84,7 @@ pub record Admitted (r : Scan) (ray : Ray) (index : Float) (z : List Float) : Ty
 module _ (ray : Ray) (index : Float) where
   start-good : (rayFinite ray && finite index) ≡ true → (index ≤₆₄ 0f) ≡ false → beamGood (beamOf ray index) ≡ true
   unfolding beamGood decimal
-  start-good u v = rw (and-l (rayFinite ray) _ u, and-r (rayFinite ray) _ u, v)
+  start-good u v = rw (both (rayFinite ray) _ u .0, both (rayFinite ray) _ u .1, v)
 
   admission-good : (room count : ℕ) → admission ray index room count ≡ 1 → (beamGood (beamOf ray index) ≡ true) × (width * count ≤ room)
   unfolding admission
@@ -154,7 +155,7 @@ module _ (b : List ℕ) (s : State) (z : List Float) (k : ℕ) where
       let q' : fitsOf (notes (s .number) nothing l) (length b) s ≡ true = rw (← e) q in
       (refl, m, fits-fit l (length b) s q', few-steps l (length b) s q')
 
-  module _ (c : Checked) (e : c ≡ checkOf b 512 (s .number)) where
+  module _ (c : Checked) (e : c ≡ checkOf b mostRecords (s .number)) where
     seen : Seen (s .number) c (recipeOf b)
     seen = see b (s .number) c e
 
@@ -190,4 +191,4 @@ sum-few [] = zero-le
 sum-few (i ∷ l) = omega (arith, limit-bounds (i .optic .surface .kind) .1, sum-few l)
 
 pub limits-few : (b : List ℕ) → sumLimits (itemsOf b) ≤ 17920
-limits-few b = omega (arith, sum-few (itemsOf b), scan-few b 512 0)
+limits-few b = omega (arith, sum-few (itemsOf b), scan-few b mostRecords 0)

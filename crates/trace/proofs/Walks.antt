@@ -20,13 +20,13 @@ use Rattle.recipe.proofs.Chain.{Chain, scan-chain, record-there}
 use Rattle.trace.specs.declared.state.State.{State}
 use Rattle.trace.specs.Leg.{width}
 use Rattle.trace.specs.State.{Held, held, pausedAt, stateAfter, surfaceLeft, stepOn, move, advance}
-use Rattle.trace.specs.Trace.{recipeOf, itemsOf}
+use Rattle.trace.specs.Trace.{mostRecords, recipeOf, itemsOf}
 use Rattle.trace.specs.Ready.{Stands, walking, arrived, stopped, Fit, Ready}
 use Rattle.trace.proofs.Steps.{advance-ended}
 use Rattle.trace.proofs.Fits.{low, fit-move, steps-move, length-move}
 
 pub chain-of : (b : List ℕ) → recipeOf b ≡ items (itemsOf b) → Chain b 0 (itemsOf b)
-chain-of b e = scan-chain b 512 0 (itemsOf b) zero-le e
+chain-of b e = scan-chain b mostRecords 0 (itemsOf b) zero-le e
 
 -- a state that has not ended is in the middle of its surface
 paused-is : (s : State) → s .outcome ≡ 0 → pausedAt s (s .passes) (s .t) (s .steps) ≡ s

@@ -15,7 +15,7 @@ use Rattle.recipe.proofs.Scans.{scan-sound}
 use Rattle.trace.specs.declared.run.Answer.{Answer}
 use Rattle.trace.specs.Unbroken.{Trace, Mark, unbroken, total, rows, padded}
 use Rattle.trace.specs.State.{Held, held, advance}
-use Rattle.trace.specs.Trace.{Reply, recipeOf, itemsOf, opticsOf, blank, beamOf, firstState, accept, begunOf, startAt, wholeOf}
+use Rattle.trace.specs.Trace.{mostRecords, Reply, recipeOf, itemsOf, opticsOf, blank, beamOf, firstState, accept, begunOf, startAt, wholeOf}
 use Rattle.trace.specs.Ready.{Ready}
 use Rattle.trace.proofs.Standing.{total-limit, finished-all, at-end}
 use Rattle.trace.proofs.Starts.{Seen, seen-good, see, start-is, Admitted, admitted-by, admitted-is, refused-alike, no-items, limits-few}
@@ -26,7 +26,7 @@ counted : (c : Checked) (r : Scan) → Seen 0 c r → r ≡ items (itemsIn r) �
 counted c (refused n p) s g = absurd (no-items g)
 counted c (items l) (seen-good e n k) g = k
 
-module _ (y : List ℕ) (ray : Ray) (index : Float) (z : List Float) (c : Checked) (checked : c ≡ checkOf y 512 0) (w : List Float) (blanked : w ≡ blank z)
+module _ (y : List ℕ) (ray : Ray) (index : Float) (z : List Float) (c : Checked) (checked : c ≡ checkOf y mostRecords 0) (w : List Float) (blanked : w ≡ blank z)
     (a : Answer) (begun : a ≡ begunOf c 0 ray index (length w)) where
   started : record { answer = a; buffer = w } ≡ startAt 0 y ray index z
   started = start-is y c checked 0 ray index z w a blanked begun
@@ -39,7 +39,7 @@ module _ (y : List ℕ) (ray : Ray) (index : Float) (z : List Float) (c : Checke
   module _ (h : a .number ≡ 1) where
     admission : Admitted (recipeOf y) ray index (blank z)
     unfolding startAt
-    admission = admitted-by 0 ray index (blank z) (recipeOf y) (scan-sound y 512 0) _ (sym (ap (λ (r : Reply). r .answer .number) started) ∙ h)
+    admission = admitted-by 0 ray index (blank z) (recipeOf y) (scan-sound y mostRecords 0) _ (sym (ap (λ (r : Reply). r .answer .number) started) ∙ h)
 
     first-is : a .state ≡ firstState (length (itemsOf y)) (beamOf ray index)
     unfolding startAt

@@ -28,8 +28,8 @@ unfoldable pub sum : List ℕ → ℕ
 sum [] = 0
 sum (a ∷ l) = a + sum l
 
--- The state after n more steps, before surface k of which the rest is l and which end at `end`: at the end of the surface that n reaches, or in its middle, after n
--- passes of its own and at the t that these have come to.
+-- The state n steps on from the start of surface k, where l are the surfaces from k on and `end` is the recipe's end: before or behind a surface whose end n
+-- reaches, or in the middle of one, after n passes of its own and at the t that these have come to.
 unfoldable pub stateAt : List Item → ℕ → ℕ → Beam → ℕ → ℕ → State
 stateAt [] end k b steps n = standing k end b steps 1
 stateAt (i ∷ l) end k b steps n =

@@ -10,7 +10,7 @@ use recipe::check;
 use recipe::read_source;
 
 // How many bytes the record of the ray takes.
-const SOURCE: usize = 60;
+pub const SOURCE: usize = 60;
 
 pub fn start_file(file: &[u8], buf: &mut [f64]) -> Answer
     ensures { λ r. ⌜ record { answer = r; buffer = now (buf .exit) } ≡ startFileOf (now (file .entry)) (now (buf .entry)) ⌝ }

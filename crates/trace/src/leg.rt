@@ -18,7 +18,7 @@ use surfaces::line_of;
 use surfaces::turn;
 
 // How many numbers a result record has.
-pub(crate) const WIDTH: usize = 13;
+pub const WIDTH: usize = 13;
 
 // What goes from surface to surface.
 pub struct Beam {

@@ -5,9 +5,12 @@ mod leg;
 mod run;
 mod state;
 
+pub use file::SOURCE;
 pub use file::start_file;
 pub use leg::Beam;
+pub use leg::WIDTH;
 pub use run::Answer;
+pub use run::MOST;
 pub use run::start;
 pub use run::whole;
 pub use state::State;

@@ -27,7 +27,7 @@ use surfaces::pass;
 use surfaces::ray_finite;
 
 // How many records a recipe may have.
-pub(crate) const MOST: usize = 512;
+pub const MOST: usize = 512;
 
 // 1 or the refusal, the refused record's place, and the state.
 pub struct Answer {

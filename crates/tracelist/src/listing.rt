@@ -7,9 +7,7 @@ use lines::put_floats;
 use lines::put_word;
 use lines::write_line;
 use trace::State;
-
-// The numbers of a record.
-pub const WIDTH: usize = 13;
+use trace::WIDTH;
 
 pub(crate) fn print_refused(number: u8, place: usize) -> bool {
     let mut line = [0u8; 60];

@@ -5,17 +5,16 @@ mod listing;
 
 use libc::STDIN_FILENO;
 use lines::part;
-use listing::WIDTH;
 use listing::print_end;
 use listing::print_records;
 use listing::print_refused;
+use trace::MOST;
+use trace::SOURCE;
+use trace::WIDTH;
 use trace::start_file;
 
-// The bytes of the record that has the ray.
-const RAY: usize = 60;
-
 // The ray's, those of 512 records of the longest kind, and one: by a theorem of `trace` these alone refuse a longer recipe.
-const FILE: usize = RAY + 512 * 108 + 1;
+const FILE: usize = SOURCE + MOST * 108 + 1;
 
 // Tells whether all could be written. No trace has as many steps as are allowed.
 fn list(file: &[u8], results: &mut [f64]) -> bool {
@@ -24,7 +23,7 @@ fn list(file: &[u8], results: &mut [f64]) -> bool {
         return print_refused(begun.number, begun.place);
     }
     let state = begun.state;
-    let ended = state.resume(part(file, RAY, file.len()), results, 65535);
+    let ended = state.resume(part(file, SOURCE, file.len()), results, 65535);
     let last = ended.state;
     if !print_records(results) {
         return false;
@@ -34,7 +33,7 @@ fn list(file: &[u8], results: &mut [f64]) -> bool {
 
 fn main() {
     let mut file = [0u8; FILE];
-    let mut results = [0.0; 512 * WIDTH];
+    let mut results = [0.0; MOST * WIDTH];
     let held = io::read_full(STDIN_FILENO, &mut file);
     list(&file[..held], &mut results);
 }

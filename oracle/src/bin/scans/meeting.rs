@@ -46,21 +46,11 @@ impl Surface {
                 s.intersect_ray(ray, self.vertex_z),
             ),
             Kind::Biconic(s) => (
-                Newton {
-                    semi: s.semi_diameter_mm,
-                    stops_a_last_move: true,
-                    sag: Box::new(|p, _| s.sag(p.x, p.y)),
-                    slopes: Box::new(|p, _| s.derivatives(p.x, p.y)),
-                },
+                Newton::of_meridians(s.semi_diameter_mm, |p| s.sag(p.x, p.y), |p| s.derivatives(p.x, p.y)),
                 s.intersect_ray(ray, self.vertex_z),
             ),
             Kind::Toroid(s) => (
-                Newton {
-                    semi: s.semi_diameter_mm,
-                    stops_a_last_move: true,
-                    sag: Box::new(|p, _| s.sag(p.x, p.y)),
-                    slopes: Box::new(|p, _| s.derivatives(p.x, p.y)),
-                },
+                Newton::of_meridians(s.semi_diameter_mm, |p| s.sag(p.x, p.y), |p| s.derivatives(p.x, p.y)),
                 s.intersect_ray(ray, self.vertex_z),
             ),
         };
@@ -121,7 +111,21 @@ struct Newton<'a> {
     slopes: AtPoint<'a, (f64, f64)>,
 }
 
-impl Newton<'_> {
+impl<'a> Newton<'a> {
+    /// Of a biconic or a toroid.
+    fn of_meridians(
+        semi: f64,
+        sag: impl Fn(Vec3) -> Result<f64, OpticsError> + 'a,
+        slopes: impl Fn(Vec3) -> Result<(f64, f64), OpticsError> + 'a,
+    ) -> Self {
+        Newton {
+            semi,
+            stops_a_last_move: true,
+            sag: Box::new(move |p, _| sag(p)),
+            slopes: Box::new(move |p, _| slopes(p)),
+        }
+    }
+
     fn meeting(&self, ray: &Ray, vertex_z: f64, made: usize, mut t: f64, limit: usize) -> Meeting {
         if made == 0 {
             if ray.direction.z.abs() < 1e-15 {

@@ -6,7 +6,7 @@ use native.Mathlib.Omega.{arith}
 use borrow.Author.Needs.{needs}
 use lib.Ieee.{Float, ofBits}
 use Rattle.numbers.specs.Arithmetic.{decimal}
-use Rattle.recipe.specs.Bytes.{numbersAt}
+use Rattle.recipe.specs.Endian.{numbersAt}
 use Rattle.recipe.specs.Record.{coefficientsAt}
 use Rattle.recipe.proofs.Numbers.{term-more}
 use Rattle.recipe.proofs.record.coefficients_at.Statement.{statement}

@@ -3,7 +3,7 @@ use lib.Ieee.{ofBits, lt}
 use Rattle.numbers.specs.Arithmetic.{decimal, 0f}
 use Rattle.numbers.proofs.Signs.{positive, no-nan}
 use Rattle.surfaces.specs.Types.{sameAbove0}
-use Rattle.surfaces.proofs.Again.{both}
+use Rattle.surfaces.proofs.Choice.{both}
 use Rattle.surfaces.proofs.types.same.Statement.{statement}
 use Rattle.surfaces.proofs.types.same.Tie as tie
 

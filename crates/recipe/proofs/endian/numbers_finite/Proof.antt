@@ -5,10 +5,10 @@ use native.Mathlib.Omega.{arith}
 use borrow.Author.Needs.{needs}
 use lib.ListN.{length}
 use Rattle.surfaces.specs.Types.{everyFinite}
-use Rattle.recipe.specs.Bytes.{numbersAt}
+use Rattle.recipe.specs.Endian.{numbersAt}
 use Rattle.recipe.proofs.Numbers.{finite-turn, finite-stop, finite-end}
-use Rattle.recipe.proofs.bytes.numbers_finite.Statement.{statement}
-use Rattle.recipe.proofs.bytes.numbers_finite.Tie as tie
+use Rattle.recipe.proofs.endian.numbers_finite.Statement.{statement}
+use Rattle.recipe.proofs.endian.numbers_finite.Tie as tie
 
 abbrev Inv-loop : tie.InvT-loop
 Inv-loop s at n place₀ left₀ place left = (place + 8 * left ≤ length s) × (everyFinite (numbersAt s place left) ≡ everyFinite (numbersAt s at n))

@@ -1,8 +1,8 @@
 -- What is returned follows from the tests and the calls on the way, in their order. Assumes nothing.
 use borrow.Author.Needs.{needs}
-use Rattle.recipe.specs.Bytes.{numberAt}
-use Rattle.recipe.proofs.bytes.number_at.Statement.{statement}
-use Rattle.recipe.proofs.bytes.number_at.Tie as tie
+use Rattle.recipe.specs.Endian.{numberAt}
+use Rattle.recipe.proofs.endian.number_at.Statement.{statement}
+use Rattle.recipe.proofs.endian.number_at.Tie as tie
 
 pub number-at-spec : {M : Type 1} → statement M
 unfolding numberAt

@@ -3,9 +3,9 @@ use Prim.Native.Nat.{_+_}
 use mathlib.Core.Path.{refl}
 use native.Mathlib.Omega.{arith}
 use borrow.Author.Needs.{needs}
-use Rattle.recipe.specs.Bytes.{u16At}
-use Rattle.recipe.proofs.bytes.u16_at.Statement.{statement}
-use Rattle.recipe.proofs.bytes.u16_at.Tie as tie
+use Rattle.recipe.specs.Endian.{u16At}
+use Rattle.recipe.proofs.endian.u16_at.Statement.{statement}
+use Rattle.recipe.proofs.endian.u16_at.Tie as tie
 
 pub u16-at-spec : {M : Type 1} → statement M
 unfolding u16At

@@ -1,9 +1,9 @@
 -- A finite number is known by its pattern. Assumes nothing.
 use borrow.Author.Needs.{needs}
-use Rattle.recipe.specs.Bytes.{numberAt}
+use Rattle.recipe.specs.Endian.{numberAt}
 use Rattle.recipe.proofs.Patterns.{finite-pattern}
-use Rattle.recipe.proofs.bytes.finite_at.Statement.{statement}
-use Rattle.recipe.proofs.bytes.finite_at.Tie as tie
+use Rattle.recipe.proofs.endian.finite_at.Statement.{statement}
+use Rattle.recipe.proofs.endian.finite_at.Tie as tie
 
 pub finite-at-spec : {M : Type 1} → statement M
 unfolding numberAt

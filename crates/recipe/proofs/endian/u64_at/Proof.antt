@@ -1,8 +1,8 @@
 -- What is returned follows from the tests and the calls on the way, in their order. Assumes nothing.
 use borrow.Author.Needs.{needs}
-use Rattle.recipe.specs.Bytes.{u64At}
-use Rattle.recipe.proofs.bytes.u64_at.Statement.{statement}
-use Rattle.recipe.proofs.bytes.u64_at.Tie as tie
+use Rattle.recipe.specs.Endian.{u64At}
+use Rattle.recipe.proofs.endian.u64_at.Statement.{statement}
+use Rattle.recipe.proofs.endian.u64_at.Tie as tie
 
 pub u64-at-spec : {M : Type 1} → statement M
 unfolding u64At

@@ -4,7 +4,7 @@ ghost use lib.ListN.{length};
 ghost use Prim.Native.Nat.{_+_, _*_, _≤_, _<_};
 ghost use lib.Ieee.Scale.{finite};
 ghost use Rattle.surfaces.specs.Types.{everyFinite};
-ghost use Rattle.recipe.specs.Bytes.{u16At, u64At, numberAt, numbersAt};
+ghost use Rattle.recipe.specs.Endian.{u16At, u64At, numberAt, numbersAt};
 use numbers::from_bits;
 
 pub(crate) fn u16_at(s: &[u8], at: usize) -> usize

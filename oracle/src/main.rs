@@ -66,6 +66,7 @@ fn asked<'a, T, S>(
 }
 
 /// None for a line that cannot be read.
+#[rustfmt::skip] // a question a line
 fn answer(line: &[u8]) -> Option<Answer> {
     let (operation, mut q) = Operands::of_line(line)?;
     let answer = match operation {
@@ -102,13 +103,9 @@ fn answer(line: &[u8]) -> Option<Answer> {
         }
         "even_paraxial" => one(q.even()?.paraxial_curvature()),
         "even_sag" => asked(&mut q, Operands::number, Operands::even, |r, s| s.sag(r).and_then(one))?,
-        "even_derivative" => {
-            asked(&mut q, Operands::number, Operands::even, |r, s| s.radial_derivative(r).and_then(one))?
-        }
+        "even_derivative" => asked(&mut q, Operands::number, Operands::even, |r, s| s.radial_derivative(r).and_then(one))?,
         "even_normal" => asked(&mut q, Operands::place, Operands::even, |(x, y), s| s.normal(x, y).map(vector))?,
-        "even_intersect" => {
-            asked(&mut q, Operands::ray_and_vertex, Operands::even, |(ray, z), s| s.intersect_ray(&ray, z).map(hit))?
-        }
+        "even_intersect" => asked(&mut q, Operands::ray_and_vertex, Operands::even, |(ray, z), s| s.intersect_ray(&ray, z).map(hit))?,
 
         "odd_new" => {
             let s = q.odd()?;
@@ -126,13 +123,9 @@ fn answer(line: &[u8]) -> Option<Answer> {
         "biconic_rx" => one(q.biconic()?.rx_mm()),
         "biconic_ry" => one(q.biconic()?.ry_mm()),
         "biconic_sag" => asked(&mut q, Operands::place, Operands::biconic, |(x, y), s| s.sag(x, y).and_then(one))?,
-        "biconic_derivatives" => {
-            asked(&mut q, Operands::place, Operands::biconic, |(x, y), s| s.derivatives(x, y).map(pair))?
-        }
+        "biconic_derivatives" => asked(&mut q, Operands::place, Operands::biconic, |(x, y), s| s.derivatives(x, y).map(pair))?,
         "biconic_normal" => asked(&mut q, Operands::place, Operands::biconic, |(x, y), s| s.normal(x, y).map(vector))?,
-        "biconic_intersect" => {
-            asked(&mut q, Operands::ray_and_vertex, Operands::biconic, |(ray, z), s| s.intersect_ray(&ray, z).map(hit))?
-        }
+        "biconic_intersect" => asked(&mut q, Operands::ray_and_vertex, Operands::biconic, |(ray, z), s| s.intersect_ray(&ray, z).map(hit))?,
 
         "toroid_new" => {
             let s = q.toroid()?;
@@ -140,13 +133,9 @@ fn answer(line: &[u8]) -> Option<Answer> {
         }
         "toroid_ry" => one(q.toroid()?.ry_mm()),
         "toroid_sag" => asked(&mut q, Operands::place, Operands::toroid, |(x, y), s| s.sag(x, y).and_then(one))?,
-        "toroid_derivatives" => {
-            asked(&mut q, Operands::place, Operands::toroid, |(x, y), s| s.derivatives(x, y).map(pair))?
-        }
+        "toroid_derivatives" => asked(&mut q, Operands::place, Operands::toroid, |(x, y), s| s.derivatives(x, y).map(pair))?,
         "toroid_normal" => asked(&mut q, Operands::place, Operands::toroid, |(x, y), s| s.normal(x, y).map(vector))?,
-        "toroid_intersect" => {
-            asked(&mut q, Operands::ray_and_vertex, Operands::toroid, |(ray, z), s| s.intersect_ray(&ray, z).map(hit))?
-        }
+        "toroid_intersect" => asked(&mut q, Operands::ray_and_vertex, Operands::toroid, |(ray, z), s| s.intersect_ray(&ray, z).map(hit))?,
         _ => return None,
     };
     q.end()?;

@@ -1,5 +1,5 @@
 -- The decimal text is the one that `io::decimal` promises. Assumes nothing.
-use Prim.Native.Nat.{ℕ, zero, suc, _+_, _*_, _-_, _/_, _%_, _^_, _≤_, _<_}
+use Prim.Native.Nat.{ℕ, zero, suc, _*_, _-_, _/_, _%_, _^_, _≤_, _<_}
 use mathlib.Core.Path.{_≡_}
 use native.Mathlib.Nat.{mod-eq-of-lt, lt-of-not-le, one-le-pow, pow-le-pow-right, pow-succ'}
 use native.Mathlib.Omega.{arith}

@@ -14,7 +14,7 @@ use lib.Ieee.Bits.{ofBits-toBits, ofBits-fits}
 use lib.Ieee.Fits.{and-l, and-r}
 use lib.Ieee.Positive.{positive-finite, positive-of-value}
 use lib.Ieee.Exact.{odd-sign}
-use Rattle.numbers.specs.Sqrt.{units, root, Number, AboveZero, rootUnits, twiceRoot², twiceMidpoint², Nearest, NoneNearer, NoTie, OnlyOne}
+use Rattle.numbers.specs.Sqrt.{units, root, Number, AboveZero, rootUnits, twiceRoot², twiceMidpoint², NoneNearer, NoTie, OnlyOne}
 use Rattle.numbers.specs.Parts.{Near, Scale, patternUnits}
 use Rattle.numbers.proofs.Patterns.{pattern}
 use Rattle.numbers.proofs.Roots.{before, nearest-of, long, short}

@@ -7,12 +7,13 @@ use mathlib.Core.List.{List}
 use lib.ListN.{length}
 use borrow.Author.Tests.{eq-eqb, ne-eqb}
 use Rattle.surfaces.specs.Surface.{limitOf}
+use Rattle.surfaces.proofs.Chains.{limit-bounds}
 use Rattle.recipe.specs.declared.record.Optic.{Optic}
 use Rattle.recipe.specs.declared.scan.Seen.{Seen}
 use Rattle.recipe.specs.declared.scan.Checked.{Checked}
 use Rattle.recipe.specs.Record.{Read, bad, good, recordAt}
 use Rattle.recipe.specs.Scan.{Item, Scan, refused, items, before, seenOf, scan, failed, note, notes, says}
-use Rattle.recipe.proofs.Records.{bad-number, good-inside, limit-bounds}
+use Rattle.recipe.proofs.Records.{bad-number, good-inside}
 use Rattle.recipe.proofs.Scans.{scan-end, scan-full, scan-record}
 
 -- a record that a look passes

@@ -12,10 +12,11 @@ use Rattle.surfaces.specs.Surface.{limitOf}
 use Rattle.recipe.specs.declared.scan.Checked.{Checked}
 use Rattle.recipe.specs.Scan.{Item, note, notes, itemAt, sumLimits}
 
-pub notes-number : (w : ℕ) (c : Checked) (l : List Item) → notes w c l .number ≡ c .number
+-- number and place stay what they were
+pub notes-answer : (w : ℕ) (c : Checked) (l : List Item) → (notes w c l .number ≡ c .number) × (notes w c l .place ≡ c .place)
 unfolding notes
-notes-number w c [] = refl
-notes-number w c (i ∷ l) = notes-number w (note w c i) l
+notes-answer w c [] = (refl, refl)
+notes-answer w c (i ∷ l) = notes-answer w (note w c i) l
 
 pub notes-count : (w : ℕ) (c : Checked) (l : List Item) → notes w c l .count ≡ c .count + length l
 unfolding notes
@@ -44,8 +45,3 @@ notes-found w c (i ∷ l) zero e h =
     let later = notes-kept w (note w c i) l (omega arith) in
     (later .0 ∙ rw here, later .1 ∙ rw here)
 notes-found w c (i ∷ l) (suc k) e h = notes-found w (note w c i) l k (omega arith) (omega arith)
-
-pub notes-place : (w : ℕ) (c : Checked) (l : List Item) → notes w c l .place ≡ c .place
-unfolding notes
-notes-place w c [] = refl
-notes-place w c (i ∷ l) = notes-place w (note w c i) l

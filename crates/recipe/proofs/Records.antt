@@ -6,13 +6,10 @@ use mathlib.Core.Logic.{_≢_}
 use mathlib.Core.Bool.{Bool, true, false, not}
 use mathlib.Core.List.{List}
 use lib.ListN.{length}
-use lib.Dec.{eqb, lit≤}
+use lib.Dec.{eqb}
 use lib.Ieee.Scale.{finite}
 use Rattle.numbers.specs.Arithmetic.{_<₆₄_, _≤₆₄_, if_then_else_, 0f}
 use Rattle.surfaces.specs.Types.{everyFinite}
-use Rattle.surfaces.specs.Surface.{limitOf}
-use Rattle.surfaces.specs.declared.surface.Kind.{Kind}
-use Rattle.surfaces.specs.declared.surface.Kind.the-variants.{Conic, Even, Biconic, Toroid}
 use Rattle.surfaces.proofs.Choice.{either}
 use Rattle.recipe.specs.declared.record.Optic.{Optic}
 use Rattle.recipe.specs.Endian.{numbersAt}
@@ -79,10 +76,3 @@ module _ (b : List ℕ) (at : ℕ) where
 
   pub bad-number : {n : ℕ} → recordAt b at ≡ bad n → n ≢ 1
   bad-number h = rw h at judged-number
-
-pub limit-bounds : (k : Kind) → (0 < limitOf k) × (limitOf k ≤ 35)
-unfolding limitOf
-limit-bounds (Conic c k) = (lit≤ tt, lit≤ tt)
-limit-bounds (Even c k) = (lit≤ tt, lit≤ tt)
-limit-bounds (Biconic cx kx cy ky) = (lit≤ tt, lit≤ tt)
-limit-bounds (Toroid rx cy ky) = (lit≤ tt, lit≤ tt)

@@ -9,7 +9,7 @@ use lib.Dec.{eqb, leb, lit≤}
 use borrow.Author.Tests.{leb-true, leb-false, eqb-true, le-leb, lt-leb}
 use Rattle.numbers.specs.Arithmetic.{if_then_else_}
 use Rattle.surfaces.proofs.Choice.{either, both}
-use Rattle.recipe.specs.Source.{isSource}
+use Rattle.recipe.specs.Source.{sourceBytes, isSource}
 use Rattle.recipe.specs.Record.{lengthAt, kindAt, lengthFits, shapedAt, semiSlot, coefficientCount}
 
 -- a length that a kind has, and what it has room for
@@ -23,7 +23,6 @@ pub record Fitting (kind len : ℕ) : Type 0 where
 
 -- a record at a place of so many bytes
 pub record Shape (n at kind len : ℕ) : Type 0 where
-  pub head : at + 4 ≤ n
   pub inside : at + 2 + len ≤ n
   pub fitting : Fitting kind len
 
@@ -74,11 +73,10 @@ shape b at h l k =
     let r = both (leb (at + 4) (length b)) _ (q .0) in
     rw (l, k)
     (record {
-      head = leb-true (at + 4) (length b) (r .0);
       inside = leb-true (at + 2 + lengthAt b at) (length b) (r .1);
       fitting = fits (kindAt b at % 256) (lengthAt b at) (p .1);
     })
 
-pub source-room : (b : List ℕ) → isSource b ≡ true → 60 ≤ length b
+pub source-room : (b : List ℕ) → isSource b ≡ true → sourceBytes ≤ length b
 unfolding isSource
-source-room b h = leb-true 60 (length b) (both (leb 60 (length b)) _ (both _ (eqb (kindAt b 0) 0) h .0) .0)
+source-room b h = leb-true sourceBytes (length b) (both (leb sourceBytes (length b)) _ (both _ (eqb (kindAt b 0) 0) h .0) .0)

@@ -10,5 +10,6 @@ pub use record::Record;
 pub use record::read_record;
 pub use scan::Checked;
 pub use scan::check;
+pub use source::SOURCE;
 pub use source::Source;
 pub use source::read_source;

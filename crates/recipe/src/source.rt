@@ -8,6 +8,9 @@ use crate::record::slot;
 use surfaces::Ray;
 use surfaces::Vec3;
 
+// How many bytes it takes.
+pub const SOURCE: usize = 60;
+
 // 1, the ray and the index that it starts in, or 10.
 pub struct Source {
     pub number: u8,
@@ -18,7 +21,7 @@ pub struct Source {
 fn is_source(file: &[u8]) -> bool
     ensures { λ r. ⌜ r ≡ isSource (now (file .entry)) ⌝ }
 {
-    if file.len() < 60 {
+    if file.len() < SOURCE {
         return false;
     }
     (u16_at(file, 0) == 58) & (u16_at(file, 2) == 0)

@@ -3,22 +3,33 @@ use Prim.Native.Nat.{ℕ, zero, suc, _+_, _<_, _≤_}
 use mathlib.Core.Path.{_≡_, refl, sym, _∙_}
 use mathlib.Core.Bool.{Bool, true, false}
 use native.Mathlib.Omega.{arith}
+use lib.Dec.{lit≤}
 use lib.Ieee.{Float}
-use Rattle.numbers.specs.Arithmetic.{if_then_else_, _<₆₄_, 1e-15}
+use Rattle.numbers.specs.Arithmetic.{if_then_else_, _<₆₄_, 0f, 1e-15}
 use Rattle.numbers.specs.Basic.{magnitude}
+use Rattle.surfaces.specs.Types.{noCoefficients}
 use Rattle.surfaces.specs.Told.{Told, Ended, ended}
 use Rattle.surfaces.specs.Newton.{Shape, going, passAt, vertexPlane, passesFrom, newtonEnd, limitedPass}
-use Rattle.surfaces.specs.Asphere.{evenShape}
-use Rattle.surfaces.specs.Biconic.{biconicShape, toroidShape}
-use Rattle.surfaces.specs.Surface.{conicOf, passRule, surfaceEnd, limitOf, chain, ChainEnds}
+use Rattle.surfaces.specs.Surface.{shapeOf, conicOf, familyOf, passRule, surfaceEnd, limitOf, chain, ChainEnds}
 use Rattle.surfaces.specs.declared.types.Ray.{Ray}
 use Rattle.surfaces.specs.declared.types.Landing.{Landing}
+use Rattle.surfaces.specs.declared.surface.Family.{Family}
+use Rattle.surfaces.specs.declared.surface.Family.the-variants as family
 use Rattle.surfaces.specs.declared.surface.Kind.{Kind}
 use Rattle.surfaces.specs.declared.surface.Kind.the-variants.{Conic, Even, Biconic, Toroid}
 use Rattle.surfaces.specs.declared.surface.Surface.{Surface}
 use Rattle.surfaces.proofs.Choice.{either}
+use Rattle.surfaces.proofs.Shared.{kind-alone}
 use Rattle.surfaces.proofs.Passes.{onFrom, next, step, more}
 use Rattle.surfaces.proofs.Stops.{at-once}
+
+-- a kind may take a pass, and 35 at most
+pub limit-bounds : (k : Kind) → (0 < limitOf k) × (limitOf k ≤ 35)
+unfolding limitOf
+limit-bounds (Conic c k) = (lit≤ tt, lit≤ tt)
+limit-bounds (Even c k) = (lit≤ tt, lit≤ tt)
+limit-bounds (Biconic cx kx cy ky) = (lit≤ tt, lit≤ tt)
+limit-bounds (Toroid rx cy ky) = (lit≤ tt, lit≤ tt)
 
 -- what does not go on
 abbrev Over : Told Landing → Type 0
@@ -60,8 +71,9 @@ module _ (s : Surface) (ray : Ray) (q : Shape) (same : (made : ℕ) (t : Float) 
       rw (same made t) (chosen x _ n made refl (λ g. from-here n (suc made) (x .value .t) (more q (s .vertex) ray made t g) (omega arith))
       ∙ sym (step q (s .vertex) ray made t h))
 
-  by-passes : (t : Float) → surfaceEnd s ray ≡ newtonEnd q (s .vertex) ray → limitOf (s .kind) ≡ q .limit → 0 < q .limit → ChainEnds s ray t
-  by-passes t e l h =
+  by-passes : (t : Float) → surfaceEnd s ray ≡ newtonEnd q (s .vertex) ray → limitOf (s .kind) ≡ q .limit → ChainEnds s ray t
+  by-passes t e l =
+      let h : 0 < q .limit = omega (arith, limit-bounds (s .kind) .0, l) in
       let b = end-bounded q (s .vertex) ray h in
       record {
         same = rw (l, e) (from-here (q .limit) 0 t h (omega arith));
@@ -69,14 +81,13 @@ module _ (s : Surface) (ray : Ray) (q : Shape) (same : (made : ℕ) (t : Float) 
         within = rw (l, e) (b .1);
       }
 
-by-kind : (k : Kind) (s : Surface) (ray : Ray) (t : Float) → s .kind ≡ k → ChainEnds s ray t
+by-family : (f : Family) (s : Surface) (ray : Ray) (t : Float) → familyOf (s .kind) ≡ f → ChainEnds s ray t
 unfolding passRule surfaceEnd limitOf chain
-by-kind (Conic c k) s ray t e =
+by-family (family.Conic c k) s ray t e =
     let x = at-once ray (conicOf s c k) in
-    record { same = rw (e, x); ends = rw (e, x); within = rw e (omega arith) }
-by-kind (Even c k) s ray t e = by-passes s ray (evenShape c k (s .coefficients) (s .semi)) (λ made u. rw e) t (rw e) (rw e) (omega arith)
-by-kind (Biconic cx kx cy ky) s ray t e = by-passes s ray (biconicShape cx kx cy ky (s .semi)) (λ made u. rw e) t (rw e) (rw e) (omega arith)
-by-kind (Toroid rx cy ky) s ray t e = by-passes s ray (toroidShape rx cy ky (s .semi)) (λ made u. rw e) t (rw e) (rw e) (omega arith)
+    record { same = rw (e, e, x); ends = rw (e, x); within = rw e (omega arith) }
+by-family (family.Newton q) s ray t e =
+    by-passes s ray (shapeOf q (s .coefficients) (s .semi)) (λ made u. rw e) t (rw e) (rw e (kind-alone q noCoefficients (s .coefficients) 0f (s .semi) .1))
 
 pub chain-ends : (s : Surface) (ray : Ray) (t : Float) → ChainEnds s ray t
-chain-ends s ray t = by-kind (s .kind) s ray t refl
+chain-ends s ray t = by-family (familyOf (s .kind)) s ray t refl

@@ -1,7 +1,7 @@
 -- One pass after another, each limited, is Newton's method from the start. Assumes nothing.
 use Prim.Native.Nat.{ℕ, zero, suc, _+_, _-_, _<_}
 use mathlib.Core.Path.{_≡_, refl, sym, ap, _∙_}
-use mathlib.Core.Bool.{Bool, true, false, not, _&&_, false≢true}
+use mathlib.Core.Bool.{Bool, true, false, _&&_, false≢true}
 use native.Mathlib.Omega.{arith}
 use lib.Dec.{leb, eqb·suc-zero}
 use borrow.Author.Tests.{leb-false, le-leb, lt-leb}

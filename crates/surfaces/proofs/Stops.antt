@@ -6,14 +6,15 @@ use mathlib.Core.List.{List, [], _∷_}
 use native.Mathlib.Omega.{arith}
 use lib.Dec.{eqb, eqb·suc-zero}
 use lib.Ieee.{Float}
-use Rattle.numbers.specs.Arithmetic.{if_then_else_}
+use Rattle.numbers.specs.Arithmetic.{if_then_else_, 0f}
+use Rattle.surfaces.specs.Types.{noCoefficients}
 use Rattle.surfaces.specs.Told.{Told, done, stops}
 use Rattle.surfaces.specs.Snell.{reflected, refracted, bent}
 use Rattle.surfaces.specs.Conic.{landedWithin, planeCrossing, firstOn, curvedCrossing, conicCrossing, gradientNormal, conicNormal, normalAt}
 use Rattle.surfaces.specs.Newton.{Shape, going, arrivedAt, movedBy, passAt, nextPass, limitedPass}
-use Rattle.surfaces.specs.Asphere.{edgeRoot, baseRoot, baseSlope, evenSlopeFrom, evenSlope, evenFacing, evenNormal, evenShape}
-use Rattle.surfaces.specs.Biconic.{biconicSlopesAt, biconicSlopes, normalOf, biconicNormal, biconicShape, circleSlopes, toroidSlopes, toroidNormal, toroidShape}
-use Rattle.surfaces.specs.Surface.{conicOf, metBy, normalBy, passRule, limitOf, surfaceNormal, onwardFrom, turnRule}
+use Rattle.surfaces.specs.Asphere.{edgeRoot, baseRoot, baseSlope, evenSlopeFrom, evenSlope, evenFacing, evenNormal}
+use Rattle.surfaces.specs.Biconic.{biconicSlopesAt, biconicSlopes, normalOf, biconicNormal, circleSlopes, toroidSlopes, toroidNormal}
+use Rattle.surfaces.specs.Surface.{shapeOf, conicOf, familyOf, metAs, blank, normalBy, passRule, limitOf, surfaceNormal, onwardFrom, turnRule}
 use Rattle.surfaces.specs.declared.types.Vec3.{Vec3}
 use Rattle.surfaces.specs.declared.types.Ray.{Ray}
 use Rattle.surfaces.specs.declared.types.Landing.{Landing}
@@ -21,12 +22,15 @@ use Rattle.surfaces.specs.declared.types.Coefficients.{Coefficients}
 use Rattle.surfaces.specs.declared.types.Meridians.{Meridians}
 use Rattle.surfaces.specs.declared.refusal.Line.{Line}
 use Rattle.surfaces.specs.declared.conic.ConicSurface.{ConicSurface}
+use Rattle.surfaces.specs.declared.surface.Family.{Family}
+use Rattle.surfaces.specs.declared.surface.Family.the-variants as family
 use Rattle.surfaces.specs.declared.surface.Kind.{Kind}
 use Rattle.surfaces.specs.declared.surface.Kind.the-variants.{Conic, Even, Biconic, Toroid}
 use Rattle.surfaces.specs.declared.surface.Surface.{Surface}
 use Rattle.surfaces.specs.declared.surface.Boundary.{Boundary}
 use Rattle.surfaces.specs.declared.surface.Boundary.the-variants.{Mirror, Media}
 use Rattle.surfaces.proofs.Choice.{either, or-else}
+use Rattle.surfaces.proofs.Shared.{kind-alone}
 use Rattle.surfaces.proofs.Passes.{more}
 
 -- numbers of what has ended, and of a pass, which may go on
@@ -110,31 +114,27 @@ unfolding turnRule surfaceNormal stops
 turned s i p b = search (either-tells, normal, onward)
 
 module _ (s : Surface) (ray : Ray) (made : ℕ) (t : Float) where
-  abbrev passBy : Kind → Told Landing
-  passBy k = metBy k s (λ q. conicCrossing ray q) (λ q. limitedPass q (s .vertex) ray made t)
+  abbrev passAs : Family → Told Landing
+  passAs f = metAs f s (λ q. conicCrossing ray q) (λ q. limitedPass q (s .vertex) ray made t)
 
-  by-kind : (k : Kind) → Tells passed (passBy k .line)
-  by-kind (Conic c k) = of-a-pass _ (crossed ray _)
-  by-kind (Even c k) = limited _ (s .vertex) ray made t
-  by-kind (Biconic cx kx cy ky) = limited _ (s .vertex) ray made t
-  by-kind (Toroid rx cy ky) = limited _ (s .vertex) ray made t
+  by-family : (f : Family) → Tells passed (passAs f .line)
+  by-family (family.Conic c k) = of-a-pass _ (crossed ray _)
+  by-family (family.Newton q) = limited _ (s .vertex) ray made t
 
-  below : (k : Kind) → going (passBy k) ≡ true → made + 1 < limitOf k
-  unfolding limitOf
-  below (Conic c k) g = absurd (false≢true (sym (at-once ray (conicOf s c k)) ∙ g))
-  below (Even c k) g = omega (arith, more (evenShape c k (s .coefficients) (s .semi)) (s .vertex) ray made t g)
-  below (Biconic cx kx cy ky) g = omega (arith, more (biconicShape cx kx cy ky (s .semi)) (s .vertex) ray made t g)
-  below (Toroid rx cy ky) g = omega (arith, more (toroidShape rx cy ky (s .semi)) (s .vertex) ray made t g)
+  below : (f : Family) → going (passAs f) ≡ true → made + 1 < metAs f (blank (s .kind)) (λ q. 1) (λ q. q .limit)
+  below (family.Conic c k) g = absurd (false≢true (sym (at-once ray (conicOf s c k)) ∙ g))
+  below (family.Newton q) g =
+      omega (arith, more (shapeOf q (s .coefficients) (s .semi)) (s .vertex) ray made t g, kind-alone q (s .coefficients) noCoefficients (s .semi) 0f .1)
 
   -- a pass that neither goes on nor hits has a number that stops
   pub pass-stops : going (passRule s ray made t) ≡ false → done (passRule s ray made t) ≡ false → stops (passRule s ray made t .line .number) ≡ true
   unfolding passRule
-  pass-stops g d = rw (g, d) at (by-kind (s .kind) .told)
+  pass-stops g d = rw (g, d) at (by-family (familyOf (s .kind)) .told)
 
   -- a pass that goes on is not the last
   pub pass-limit : going (passRule s ray made t) ≡ true → made + 1 < limitOf (s .kind)
-  unfolding passRule
-  pass-limit g = below (s .kind) g
+  unfolding passRule limitOf
+  pass-limit g = below (familyOf (s .kind)) g
 
 -- a turn that does not lead on has a number that stops
 pub turn-stops : (s : Surface) (i p : Vec3) (b : Boundary) → done (turnRule s i p b) ≡ false → stops (turnRule s i p b .line .number) ≡ true

@@ -9,7 +9,7 @@ use Rattle.numbers.specs.Arithmetic.{_+₆₄_, _-₆₄_, _*₆₄_, _/₆₄_
 use Rattle.numbers.specs.Basic.{magnitude, larger}
 use Rattle.numbers.specs.Sqrt.{root}
 use Rattle.surfaces.specs.Types.{vec, zeros, backwards, distance, allFinite, meridians, noMeridians, terms, coefficientsGood}
-use Rattle.surfaces.specs.Told.{handedOut, accepted, Told, Depths, gives, refused, after, noNumber, noDirection, noEven, noOdd, depths, noDepths, noDepth, sagOf}
+use Rattle.surfaces.specs.Told.{handedOut, accepted, Told, Depths, gives, after, noNumber, noDirection, noEven, noOdd, depths, noDepths, noDepth, sagOf}
 use Rattle.surfaces.specs.Newton.{newtonAnswer, Shape}
 use Rattle.surfaces.specs.declared.types.Vec3.{Vec3}
 use Rattle.surfaces.specs.declared.types.Ray.{Ray}

@@ -95,9 +95,14 @@ pub record Shows (w : List Float) (m n : ℕ) (u : Trace) (s : State) (h : Held)
   pub buffer : h .buffer ≡ w ++ padded m (rows (finished n (u .marks)))
   pub state : h .state ≡ s
 
+-- before the surfaces that are left: done if there are none
 abbrev pub startOutcome : List Item → ℕ
 startOutcome [] = 1
 startOutcome (i ∷ l) = 0
+
+pub outcome-before : (l r : List Item) (k : ℕ) → drop k l ≡ r → k ≤ length l → (if eqb k (length l) then 1 else 0) ≡ startOutcome r
+outcome-before l [] k e h = let q = sym (length-drop k l) ∙ ap length e in rw (eq-eqb k (length l) (omega arith))
+outcome-before l (i ∷ r) k e h = let q = sym (length-drop k l) ∙ ap length e in rw (ne-eqb k (length l) (λ z. omega arith))
 
 cons-head : {A : Type 0} {a b : A} {l m : List A} → a ∷ l ≡ b ∷ m → a ≡ b
 cons-head e = cc
@@ -118,13 +123,6 @@ module _ (l : List Item) (k : ℕ) (i : Item) (r : List Item) (e : drop k l ≡ 
 
   beyond : drop (k + 1) l ≡ r
   beyond = ap (λ (n : ℕ). drop n l) (add-one k) ∙ cons-tail split
-
-  left-over : length l ≡ k + suc (length r)
-  left-over = let q = sym (length-drop k l) ∙ ap length e in let h = low in omega arith
-
-next-outcome : (l : List Item) (k : ℕ) (i : Item) (r : List Item) → drop k l ≡ i ∷ r → (if eqb (k + 1) (length l) then 1 else 0) ≡ startOutcome r
-next-outcome l k i [] e = rw (eq-eqb (k + 1) (length l) (let q = left-over l k i [] e in omega arith))
-next-outcome l k i (j ∷ r) e = rw (ne-eqb (k + 1) (length l) (λ z. let q = left-over l k i (j ∷ r) e in omega arith))
 
 -- n steps from the start of surface k, whose item is the list's
 module _ (l r : List Item) (end k at q m n : ℕ) (b : Beam) (w : List Float) (lw : length w ≡ width * k) (lm : width ≤ m) (first : itemAt l k .at ≡ at) where
@@ -232,7 +230,7 @@ closed y l (i ∷ r) {at} (link in-bounds g c) k q m n b w e lw lm =
     (λ b' q' n'.
     let v : List Float = rowOf (legOf (itemAt l k .optic) b (surfaceEnd (itemAt l k .optic .surface) (b .ray) .answer)) (surfaceEnd (itemAt l k .optic .surface) (b .ray) .passes) in
     subst (λ (o : ℕ). Shows (w ++ v) (m - width) n' (unbroken (opticsOf r) b') (stateAt r (length y) (k + 1) b' q' n') (advance l n' (held (standing (k + 1) (itemAt l k .next) b' q' o) ((w ++ v) ++ replicate (m - width) 0f))))
-    (sym (next-outcome l k i r e))
+    (sym (outcome-before l r (k + 1) (beyond l k i r e) (let h = low l k i r e in omega arith)))
     (subst (λ (p : ℕ). Shows (w ++ v) (m - width) n' (unbroken (opticsOf r) b') (stateAt r (length y) (k + 1) b' q' n') (advance l n' (held (standing (k + 1) p b' q' (startOutcome r)) ((w ++ v) ++ replicate (m - width) 0f))))
     (sym (ap (λ (j : Item). j .next) (here l k i r e)))
     (closed y l r c (k + 1) q' (m - width) n' b' (w ++ v) (beyond l k i r e) (let a = length-append w v in let u = row-width (legOf (itemAt l k .optic) b (surfaceEnd (itemAt l k .optic .surface) (b .ray) .answer)) (surfaceEnd (itemAt l k .optic .surface) (b .ray) .passes) in omega arith) (omega arith)))))

@@ -1,5 +1,5 @@
 -- Demand 3: however the allowances are chosen, what stands after every call is the unbroken trace's. Assumes nothing.
-use Prim.Native.Nat.{ℕ, zero, suc, _+_, _*_, _≤_}
+use Prim.Native.Nat.{ℕ, zero, suc, _+_, _*_, _≤_, zero-le}
 use mathlib.Core.Path.{_≡_, refl, sym, _∙_, ap, subst}
 use mathlib.Core.Logic.{_≢_}
 use mathlib.Core.List.{List, [], _∷_}
@@ -9,16 +9,16 @@ use native.Mathlib.Nat.{add-zero, zero-add}
 use lib.ListN.{length, length-replicate}
 use lib.Dec.{eqb, ltb}
 use lib.Ieee.{Float}
-use borrow.Author.Tests.{le-leb, le-ltb, eqb-true, eqb-false, ne-eqb}
-use Rattle.numbers.specs.Arithmetic.{if_then_else_, 0f}
+use borrow.Author.Tests.{le-leb, le-ltb, eqb-true, eqb-false}
+use Rattle.numbers.specs.Arithmetic.{0f}
 use Rattle.surfaces.specs.Surface.{limitOf}
 use Rattle.surfaces.specs.declared.types.Ray.{Ray}
 use Rattle.surfaces.specs.declared.surface.Kind.the-variants.{Conic, Even, Biconic, Toroid}
 use Rattle.surfaces.proofs.Choice.{either}
+use Rattle.surfaces.proofs.Chains.{limit-bounds}
 use Rattle.recipe.specs.Scan.{Item, Scan, notes, nothing, sumLimits}
 use Rattle.recipe.proofs.Chain.{Chain, place-first}
 use Rattle.recipe.proofs.Scans.{scan-sound}
-use Rattle.recipe.proofs.Records.{limit-bounds}
 use Rattle.trace.specs.declared.leg.Beam.{Beam}
 use Rattle.trace.specs.declared.state.State.{State}
 use Rattle.trace.specs.Leg.{width}
@@ -28,7 +28,7 @@ use Rattle.trace.specs.Trace.{mostRecords, Reply, recipeOf, itemsOf, opt
 use Rattle.trace.specs.Ready.{Stands, walking, arrived, Fit}
 use Rattle.trace.specs.Demand3.{calls, sum, stateAt, traceOf, Kept, called, Demand3}
 use Rattle.trace.proofs.Steps.{advance-add, move-ended}
-use Rattle.trace.proofs.Closed.{Shows, startOutcome, closed}
+use Rattle.trace.proofs.Closed.{Shows, outcome-before, closed}
 use Rattle.trace.proofs.Standing.{reached, exactly, total-limit}
 use Rattle.trace.proofs.Fits.{fit-move, length-move, fit-fits}
 use Rattle.trace.proofs.Walks.{chain-of}
@@ -51,13 +51,9 @@ module _ (y : List ℕ) (l : List Item) (ch : Chain y 0 l) where
   sound-advance size zero h s = s
   sound-advance size (suc n) h s = sound-advance size n (move l h) (sound-move size h s _ refl)
 
-first-outcome : (l : List Item) → (if eqb 0 (length l) then 1 else 0) ≡ startOutcome l
-first-outcome [] = refl
-first-outcome (i ∷ l) = rw (ne-eqb 0 (suc (length l)) (λ e. omega arith))
-
 first-stands : (l : List Item) (b : Beam) → Stands l (firstState (length l) b)
 first-stands [] b = arrived refl refl refl
-first-stands (i ∷ l) b = walking (first-outcome (i ∷ l)) (omega arith) (limit-bounds (i .optic .surface .kind) .0)
+first-stands (i ∷ l) b = walking (outcome-before (i ∷ l) (i ∷ l) 0 refl zero-le) (omega arith) (limit-bounds (i .optic .surface .kind) .0)
 
 module _ (y : List ℕ) (ray : Ray) (index : Float) (z : List Float) (a : Admitted (recipeOf y) ray index (blank z)) where
   abbrev l : List Item
@@ -80,7 +76,7 @@ module _ (y : List ℕ) (ray : Ray) (index : Float) (z : List Float) (a : Admitt
   -- after n steps
   pub shown : (n : ℕ) → Shows [] (length z) n (unbroken (opticsOf l) b) (stateAt l (length y) 0 b 0 n) (advance l n first)
   shown n =
-      subst (λ (o : ℕ). Shows [] (length z) n (unbroken (opticsOf l) b) (stateAt l (length y) 0 b 0 n) (advance l n (held (standing 0 0 b 0 o) (blank z)))) (sym (first-outcome l))
+      subst (λ (o : ℕ). Shows [] (length z) n (unbroken (opticsOf l) b) (stateAt l (length y) 0 b 0 n) (advance l n (held (standing 0 0 b 0 o) (blank z)))) (sym (outcome-before l l 0 refl zero-le))
       (closed y l l chain 0 0 (length z) n b [] refl refl (subst (λ (k : ℕ). width * length l ≤ k) (length-replicate (length z) 0f) (a .room)))
 
   few : (n : ℕ) → advance l n first .state .steps ≤ sumLimits l

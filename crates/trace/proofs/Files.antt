@@ -13,7 +13,7 @@ use Rattle.recipe.specs.declared.scan.Checked.{Checked}
 use Rattle.recipe.specs.declared.source.Source.{Source}
 use Rattle.recipe.specs.Scan.{Scan, refused, items, nothing, scan, says, checkOf}
 use Rattle.recipe.specs.Source.{sourceBytes, isSource, sourceOf}
-use Rattle.recipe.proofs.Notes.{notes-place}
+use Rattle.recipe.proofs.Notes.{notes-answer}
 use Rattle.recipe.proofs.Scans.{scan-place}
 use Rattle.recipe.proofs.Shapes.{source-room}
 use Rattle.trace.specs.declared.run.Answer.{Answer}
@@ -35,7 +35,7 @@ place-within b w = by (scan b mostRecords 0) refl
   where
     by : (r : Scan) → scan b mostRecords 0 ≡ r → says w nothing r .place ≤ length b
     by (refused n p) e = let h = scan-place b mostRecords 0 e in omega arith
-    by (items l) e = omega (arith, notes-place w nothing l)
+    by (items l) e = omega (arith, notes-answer w nothing l .1)
 
 module _ (f : List ℕ) (z y : List Float) (blanked : y ≡ blank z) (s : Source) (read : s ≡ sourceOf f) (a : Answer) where
   pub no-source : s .number ≢ 1 → a ≡ refusedAnswer 10 0 → record { answer = a; buffer = y } ≡ startFileOf f z

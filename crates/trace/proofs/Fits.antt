@@ -2,7 +2,7 @@
 use Prim.Native.Nat.{ℕ, _+_, _*_, _≤_, _<_}
 use mathlib.Core.Path.{_≡_, refl, sym, _∙_, ap, subst}
 use mathlib.Core.List.{List}
-use mathlib.Core.Bool.{Bool, true, false, not, _&&_, _||_}
+use mathlib.Core.Bool.{Bool, true, false, _&&_, _||_}
 use native.Mathlib.Omega.{arith}
 use native.Mathlib.Numerals.{add-one}
 use lib.ListN.{length}
@@ -19,12 +19,12 @@ use Rattle.surfaces.specs.Surface.{passRule, limitOf}
 use Rattle.surfaces.specs.declared.types.Landing.{Landing}
 use Rattle.surfaces.proofs.Choice.{either, both, or-else}
 use Rattle.surfaces.proofs.Stops.{pass-stops, pass-limit}
+use Rattle.surfaces.proofs.Chains.{limit-bounds}
 use Rattle.recipe.specs.declared.record.Optic.{Optic}
 use Rattle.recipe.specs.declared.scan.Checked.{Checked}
 use Rattle.recipe.specs.Scan.{Item, itemAt, placeOf, notes, nothing, sumLimits}
 use Rattle.recipe.proofs.Chain.{Chain, place-next, place-end, place-at, index-there}
 use Rattle.recipe.proofs.Notes.{notes-count, notes-limits, notes-found}
-use Rattle.recipe.proofs.Records.{limit-bounds}
 use Rattle.trace.specs.declared.leg.Beam.{Beam}
 use Rattle.trace.specs.declared.leg.Leg.{Leg}
 use Rattle.trace.specs.declared.state.State.{State}
@@ -33,19 +33,23 @@ use Rattle.trace.specs.State.{Held, held, pausedAt, stateAfter, surfaceL
 use Rattle.trace.specs.Ready.{Stands, walking, arrived, stopped, Fit}
 use Rattle.trace.proofs.Endings.{leg-stops, leg-finite}
 
+abbrev IndexGood : Float → Type 0
+IndexGood n = (finite n ≡ true) × ((n ≤₆₄ 0f) ≡ false)
+
+-- what a good beam says of its ray and its index
+pub good-beam : (b : Beam) → beamGood b ≡ true → (rayFinite (b .ray) ≡ true) × IndexGood (b .index)
+unfolding beamGood
+good-beam b h =
+    let sign = both (rayFinite (b .ray) && finite (b .path) && finite (b .index)) _ h in
+    let index = both (rayFinite (b .ray) && finite (b .path)) _ (sign .0) in
+    (both _ (finite (b .path)) (index .0) .0, (index .1, not-true (b .index ≤₆₄ 0f) (sign .1)))
+
 -- a beam after a hit
 module _ (o : Optic) (b : Beam) (g : Leg) where
-  abbrev IndexGood : Float → Type 0
-  IndexGood n = (finite n ≡ true) × ((n ≤₆₄ 0f) ≡ false)
-
-  index-before : beamGood b ≡ true → IndexGood (b .index)
-  unfolding beamGood
-  index-before h = (both (rayFinite (b .ray) && finite (b .path)) _ (both _ (not (b .index ≤₆₄ 0f)) h .0) .1, not-true (b .index ≤₆₄ 0f) (both (rayFinite (b .ray) && finite (b .path) && finite (b .index)) _ h .1))
-
   beam-good : legFinite g ≡ true → beamGood b ≡ true → IndexGood (o .index) → beamGood (beamAfter o b g) ≡ true
   unfolding legFinite beamGood beamAfter rayFinite
   beam-good h before after =
-      let n : IndexGood (if o .mirror then b .index else o .index) = either IndexGood (o .mirror) (b .index) (o .index) (index-before before) after in
+      let n : IndexGood (if o .mirror then b .index else o .index) = either IndexGood (o .mirror) (b .index) (o .index) (good-beam b before .1) after in
       let path : finite (g .path) ≡ true = both (finite (g .t) && allFinite (g .point) && allFinite (g .normal) && allFinite (g .direction)) _ h .1 in
       let rest = both (finite (g .t) && allFinite (g .point) && allFinite (g .normal) && allFinite (g .direction)) _ h .0 in
       let direction : allFinite (g .direction) ≡ true = both (finite (g .t) && allFinite (g .point) && allFinite (g .normal)) _ rest .1 in

@@ -12,8 +12,7 @@ use lib.Dec.{eqb}
 use lib.Ieee.{Float}
 use Rattle.numbers.specs.Arithmetic.{if_then_else_}
 use Rattle.surfaces.specs.declared.types.Ray.{Ray}
-use Rattle.recipe.specs.Scan.{refused}
-use Rattle.recipe.specs.Source.{sourceOf}
+use Rattle.recipe.specs.Source.{sourceBytes, sourceOf}
 use Rattle.recipe.proofs.Scans.{Sound, scan-sound}
 use Rattle.recipe.proofs.Length.{too-long}
 use Rattle.recipe.proofs.Sources.{source-take}
@@ -35,21 +34,21 @@ drop-take (suc k) n [] = rw (take-nil (suc k + n), take-nil n)
 drop-take (suc k) n (x ∷ l) = let e : suc k + n ≡ suc (k + n) = omega arith in rw e (drop-take k n l)
 
 module _ (f : List ℕ) (z : List Float) (long : 55356 < length f) where
-  rest : 55296 < length (drop 60 f)
-  rest = let e = length-drop 60 f in omega arith
+  rest : 55296 < length (drop sourceBytes f)
+  rest = let e = length-drop sourceBytes f in omega arith
 
   file-alike : startFileOf f z ≡ startFileOf (take 55357 f) z
   unfolding startFileOf
   file-alike =
-      rw (source-take f 55357 (omega arith) (omega arith), drop-take 60 55297 f, alike (drop 60 f) rest 60 (sourceOf f .ray) (sourceOf f .index) z)
+      rw (source-take f 55357 (omega arith) (omega arith), drop-take sourceBytes 55297 f, alike (drop sourceBytes f) rest sourceBytes (sourceOf f .ray) (sourceOf f .index) z)
 
   file-off : startFileOf f z .answer .number ≢ 1
   unfolding startFileOf refusedAnswer
   file-off = by (eqb (sourceOf f .number) 1)
     where
-      by : (t : Bool) → (if not t then record { answer = refusedAnswer 10 0; buffer = blank z } else startAt 60 (drop 60 f) (sourceOf f .ray) (sourceOf f .index) z) .answer .number ≢ 1
+      by : (t : Bool) → (if not t then record { answer = refusedAnswer 10 0; buffer = blank z } else startAt sourceBytes (drop sourceBytes f) (sourceOf f .ray) (sourceOf f .index) z) .answer .number ≢ 1
       by false = λ e. omega arith
-      by true = off (drop 60 f) rest 60 (sourceOf f .ray) (sourceOf f .index) z
+      by true = off (drop sourceBytes f) rest sourceBytes (sourceOf f .ray) (sourceOf f .index) z
 
 pub long : Long
 unfolding startOf

@@ -1,6 +1,6 @@
 -- The ways out of start and continue, each at what its promise says. Assumes nothing.
 use Prim.Native.Nat.{ℕ, _*_, _≤_, _<_, zero-le}
-use mathlib.Core.Path.{_≡_, refl, sym, _∙_, ap, subst}
+use mathlib.Core.Path.{_≡_, refl, sym, _∙_, ap}
 use mathlib.Core.Logic.{_≢_}
 use mathlib.Core.List.{List, [], _∷_}
 use mathlib.Core.Bool.{Bool, true, false, not, _&&_}
@@ -9,37 +9,37 @@ use lib.ListN.{length}
 use lib.Dec.{eqb, ltb}
 use lib.Ieee.{Float}
 use lib.Ieee.Scale.{finite}
-use borrow.Author.Tests.{eq-eqb, ne-eqb, lt-ltb, le-ltb, eqb-true, eqb-false, ltb-false, not-true}
+use borrow.Author.Tests.{eq-eqb, ne-eqb, lt-ltb, le-ltb, eqb-true, eqb-false, ltb-false}
 use Rattle.numbers.specs.Arithmetic.{_≤₆₄_, if_then_else_, 0f, decimal}
 use Rattle.surfaces.specs.Types.{rayFinite}
 use Rattle.surfaces.specs.declared.types.Ray.{Ray}
 use Rattle.surfaces.proofs.Choice.{both}
+use Rattle.surfaces.proofs.Chains.{limit-bounds}
 use Rattle.recipe.specs.declared.scan.Checked.{Checked}
 use Rattle.recipe.specs.Scan.{Item, Scan, refused, items, notes, nothing, says, checkOf, itemsIn, sumLimits}
-use Rattle.recipe.proofs.Notes.{notes-number, notes-count}
-use Rattle.recipe.proofs.Records.{limit-bounds}
+use Rattle.recipe.proofs.Notes.{notes-answer, notes-count}
 use Rattle.recipe.proofs.Scans.{Sound, scan-sound, scan-few}
 use Rattle.trace.specs.declared.state.State.{State}
 use Rattle.trace.specs.declared.run.Answer.{Answer}
 use Rattle.trace.specs.Leg.{width}
 use Rattle.trace.specs.State.{Held, held, advance, beamGood, fitsOf}
 use Rattle.trace.specs.Trace.{mostRecords, Reply, reply, blank, recipeOf, itemsOf, beamOf, firstState, refusedAnswer, refusedReply, admission, admitted, begunOf, startAt, accept, continueOn, continueOf}
-use Rattle.trace.specs.Ready.{Fit, Ready}
-use Rattle.trace.proofs.Fits.{fits-fit, few-steps}
+use Rattle.trace.specs.Ready.{Ready}
+use Rattle.trace.proofs.Fits.{good-beam, fits-fit, few-steps}
 
 -- what a check says of the recipe
-pub data Seen (w : ℕ) (c : Checked) : Scan → Type 0 where
-  seen-bad : {n p : ℕ} → c .number ≡ n → c .place ≡ p → c .number ≢ 1 → Seen w c (refused n p)
-  seen-good : {l : List Item} → c ≡ notes w nothing l → c .number ≡ 1 → c .count ≡ length l → Seen w c (items l)
+pub data Finding (w : ℕ) (c : Checked) : Scan → Type 0 where
+  finds-bad : {n p : ℕ} → c .number ≡ n → c .place ≡ p → c .number ≢ 1 → Finding w c (refused n p)
+  finds-good : {l : List Item} → c ≡ notes w nothing l → c .number ≡ 1 → c .count ≡ length l → Finding w c (items l)
 
-see-scan : (w : ℕ) (c : Checked) (r : Scan) → Sound r → c ≡ says w nothing r → Seen w c r
-see-scan w c (refused n p) h e = seen-bad (ap (λ (k : Checked). k .number) e) (ap (λ (k : Checked). k .place) e) (λ q. h (sym (ap (λ (k : Checked). k .number) e) ∙ q))
-see-scan w c (items l) h e =
-    seen-good e (ap (λ (k : Checked). k .number) e ∙ notes-number w nothing l) (let q = ap (λ (k : Checked). k .count) e in omega (arith, q, notes-count w nothing l))
+found : (w : ℕ) (c : Checked) (r : Scan) → Sound r → c ≡ says w nothing r → Finding w c r
+found w c (refused n p) h e = finds-bad (ap (λ (k : Checked). k .number) e) (ap (λ (k : Checked). k .place) e) (λ q. h (sym (ap (λ (k : Checked). k .number) e) ∙ q))
+found w c (items l) h e =
+    finds-good e (ap (λ (k : Checked). k .number) e ∙ notes-answer w nothing l .0) (let q = ap (λ (k : Checked). k .count) e in omega (arith, q, notes-count w nothing l))
 
-pub see : (b : List ℕ) (w : ℕ) (c : Checked) → c ≡ checkOf b mostRecords w → Seen w c (recipeOf b)
+pub finding : (b : List ℕ) (w : ℕ) (c : Checked) → c ≡ checkOf b mostRecords w → Finding w c (recipeOf b)
 unfolding checkOf
-see b w c e = see-scan w c (recipeOf b) (scan-sound b mostRecords 0) e
+finding b w c e = found w c (recipeOf b) (scan-sound b mostRecords 0) e
 
 -- an answer and the buffer beside it
 beside : (z : List Float) (accept : Answer) (n : ℕ) (t : Bool)
@@ -47,33 +47,21 @@ beside : (z : List Float) (accept : Answer) (n : ℕ) (t : Bool)
 beside z accept n true = refl
 beside z accept n false = refl
 
-begun : (c : Checked) (r : Scan) → Seen 0 c r → (base : ℕ) (ray : Ray) (index : Float) (z : List Float)
+begun : (c : Checked) (r : Scan) → Finding 0 c r → (base : ℕ) (ray : Ray) (index : Float) (z : List Float)
     → record { answer = begunOf c base ray index (length z); buffer = z } ≡ admitted r base ray index z (λ l. reply 1 0 (firstState (length l) (beamOf ray index)) z)
 unfolding begunOf
-begun c (refused n p) (seen-bad e f g) base ray index z = rw (ne-eqb (c .number) 1 g, e, f)
-begun c (items l) (seen-good e n k) base ray index z =
+begun c (refused n p) (finds-bad e f g) base ray index z = rw (ne-eqb (c .number) 1 g, e, f)
+begun c (items l) (finds-good e n k) base ray index z =
     let a = admission ray index (length z) (length l) in
     rw (eq-eqb (c .number) 1 n, k) (beside z (record { number = 1; place = 0; state = firstState (length l) (beamOf ray index) }) a (eqb a 1))
 
 pub start-is : (b : List ℕ) (c : Checked) → c ≡ checkOf b mostRecords 0 → (base : ℕ) (ray : Ray) (index : Float) (z y : List Float) (a : Answer) → y ≡ blank z
     → a ≡ begunOf c base ray index (length y) → record { answer = a; buffer = y } ≡ startAt base b ray index z
 unfolding startAt
-start-is b c e base ray index z y a blanked q = rw (q, blanked) (begun c (recipeOf b) (see b 0 c e) base ray index (blank z))
-
--- a beam that is good has a finite ray, and an index that is finite and above 0
-index-of : (ray : Ray) (index : Float) → beamGood (beamOf ray index) ≡ true → ((rayFinite ray && finite index) ≡ true) × ((index ≤₆₄ 0f) ≡ false)
-unfolding beamGood
-index-of ray index h =
-    let r = both (rayFinite ray) _ (both _ (finite index) (both _ (not (index ≤₆₄ 0f)) h .0) .0) .0 in
-    let i = both (rayFinite ray && finite 0f) _ (both _ (not (index ≤₆₄ 0f)) h .0) .1 in
-    (rw (r, i), not-true (index ≤₆₄ 0f) (both (rayFinite ray && finite 0f && finite index) _ h .1))
-
-abbrev IsItems : Scan → Type 0
-IsItems (refused n p) = ⊥
-IsItems (items l) = Unit {0}
+start-is b c e base ray index z y a blanked q = rw (q, blanked) (begun c (recipeOf b) (finding b 0 c e) base ray index (blank z))
 
 pub no-items : {n p : ℕ} {l : List Item} → refused n p ≡ items l → ⊥
-no-items e = subst IsItems (sym e) tt
+no-items e = let z : _≡_ {A = ℕ} 0 1 = cc in omega arith
 
 -- an accepted start
 pub record Admitted (r : Scan) (ray : Ray) (index : Float) (z : List Float) : Type 0 where
@@ -99,7 +87,7 @@ module _ (ray : Ray) (index : Float) where
 
   good-admission : (room count : ℕ) → beamGood (beamOf ray index) ≡ true → width * count ≤ room → admission ray index room count ≡ 1
   unfolding admission
-  good-admission room count b h = let g = index-of ray index b in rw (g .0, g .1, le-ltb room (width * count) h)
+  good-admission room count b h = let g = good-beam (beamOf ray index) b in rw (g .0, g .1 .0, g .1 .1, le-ltb room (width * count) h)
 
 module _ (base : ℕ) (ray : Ray) (index : Float) (z : List Float) where
   admits : (l : List Item) (f : Reply) (t : Bool) → let n = admission ray index (length z) (length l) in
@@ -130,59 +118,53 @@ module _ (base : ℕ) (ray : Ray) (index : Float) (z : List Float) where
   refused-alike (items l) f g a h = alike (eqb (admission ray index (length z) (length l)) 1) (f l) (g l) _ (a l) h
 
 -- continue
-module _ (b : List ℕ) (s : State) (z : List Float) (k : ℕ) where
-  go-bad : (c : Checked) (r : Scan) → Seen (s .number) c r → c .number ≢ 1 → reply (c .number) (c .place) s z ≡ continueOn r (length b) s z k
-  go-bad c (refused n p) (seen-bad e f g) h = rw (e, f)
-  go-bad c (items l) (seen-good e n i) h = absurd (h n)
+module _ (b : List ℕ) (s : State) (z : List Float) (k : ℕ) (c : Checked) (e : c ≡ checkOf b mostRecords (s .number)) where
+  bad : (r : Scan) → Finding (s .number) c r → c .number ≢ 1 → reply (c .number) (c .place) s z ≡ continueOn r (length b) s z k
+  bad (refused n p) (finds-bad q f g) h = rw (q, f)
+  bad (items l) (finds-good q n i) h = absurd (h n)
 
-  go-short : (c : Checked) (r : Scan) → Seen (s .number) c r → c .number ≡ 1 → length z < width * c .count → reply 11 0 s z ≡ continueOn r (length b) s z k
-  go-short c (refused n p) (seen-bad e f g) h i = absurd (g h)
-  go-short c (items l) (seen-good e n m) h i = rw (lt-ltb (length z) (width * length l) (omega arith))
+  pub on-bad : c .number ≢ 1 → reply (c .number) (c .place) s z ≡ continueOf b s z k
+  unfolding continueOf
+  on-bad h = bad (recipeOf b) (finding b (s .number) c e) h
 
-  go-unfit : (c : Checked) (r : Scan) → Seen (s .number) c r → c .number ≡ 1 → width * c .count ≤ length z → fitsOf c (length b) s ≡ false → reply 12 0 s z ≡ continueOn r (length b) s z k
-  go-unfit c (refused n p) (seen-bad e f g) h i q = absurd (g h)
-  go-unfit c (items l) (seen-good e n m) h i q = rw (le-ltb (length z) (width * length l) (omega arith), ← e, q)
+  good : (r : Scan) → Finding (s .number) c r → c .number ≡ 1 → (r ≡ items (itemsIn r)) × (c ≡ notes (s .number) nothing (itemsIn r)) × (c .count ≡ length (itemsIn r))
+  good (refused n p) (finds-bad q f g) h = absurd (g h)
+  good (items l) (finds-good q n i) h = (refl, q, i)
 
-  go-run : (c : Checked) (r : Scan) → Seen (s .number) c r → c .number ≡ 1 → width * c .count ≤ length z → fitsOf c (length b) s ≡ true
-      → (h : Held) → h ≡ advance (itemsIn r) k (held s z) → accept h ≡ continueOn r (length b) s z k
-  go-run c (refused n p) (seen-bad e f g) h i q v w = absurd (g h)
-  go-run c (items l) (seen-good e n m) h i q v w = rw (le-ltb (length z) (width * length l) (omega arith), ← e, q) (ap accept w)
+  module _ (h : c .number ≡ 1) where
+    abbrev l : List Item
+    l = itemsOf b
 
-  go-ready : (c : Checked) (r : Scan) → Seen (s .number) c r → c .number ≡ 1 → fitsOf c (length b) s ≡ true
-      → (r ≡ items (itemsIn r)) × (c .count ≡ length (itemsIn r)) × (Fit (itemsIn r) (length b) s) × (s .steps ≤ sumLimits (itemsIn r))
-  go-ready c (refused n p) (seen-bad e f g) h q = absurd (g h)
-  go-ready c (items l) (seen-good e n m) h q =
-      let q' : fitsOf (notes (s .number) nothing l) (length b) s ≡ true = rw (← e) q in
-      (refl, m, fits-fit l (length b) s q', few-steps l (length b) s q')
+    recipe-good : (recipeOf b ≡ items l) × (c ≡ notes (s .number) nothing l) × (c .count ≡ length l)
+    recipe-good = good (recipeOf b) (finding b (s .number) c e) h
 
-  module _ (c : Checked) (e : c ≡ checkOf b mostRecords (s .number)) where
-    seen : Seen (s .number) c (recipeOf b)
-    seen = see b (s .number) c e
-
-    pub on-bad : c .number ≢ 1 → reply (c .number) (c .place) s z ≡ continueOf b s z k
+    -- past the recipe's checks
+    past : (x : Reply) → x ≡ continueOn (items l) (length b) s z k → x ≡ continueOf b s z k
     unfolding continueOf
-    on-bad h = go-bad c (recipeOf b) seen h
+    past x q = q ∙ ap (λ (r : Scan). continueOn r (length b) s z k) (sym (recipe-good .0))
 
-    pub on-short : c .number ≡ 1 → length z < width * c .count → reply 11 0 s z ≡ continueOf b s z k
-    unfolding continueOf
-    on-short h i = go-short c (recipeOf b) seen h i
+    pub on-short : length z < width * c .count → reply 11 0 s z ≡ continueOf b s z k
+    on-short i = let n = recipe-good .2 in past _ (rw (lt-ltb (length z) (width * length l) (omega arith)))
 
-    pub on-unfit : c .number ≡ 1 → width * c .count ≤ length z → fitsOf c (length b) s ≡ false → reply 12 0 s z ≡ continueOf b s z k
-    unfolding continueOf
-    on-unfit h i q = go-unfit c (recipeOf b) seen h i q
+    module _ (i : width * c .count ≤ length z) where
+      room : ltb (length z) (width * length l) ≡ false
+      room = let n = recipe-good .2 in le-ltb (length z) (width * length l) (omega arith)
 
-    pub on-run : c .number ≡ 1 → width * c .count ≤ length z → fitsOf c (length b) s ≡ true
-        → (h : Held) → h ≡ advance (itemsOf b) k (held s z) → accept h ≡ continueOf b s z k
-    unfolding continueOf
-    on-run h i q v w = go-run c (recipeOf b) seen h i q v w
+      pub on-unfit : fitsOf c (length b) s ≡ false → reply 12 0 s z ≡ continueOf b s z k
+      on-unfit q = past _ (rw (room, ← recipe-good .1, q))
 
-    pub on-ready : c .number ≡ 1 → width * c .count ≤ length z → fitsOf c (length b) s ≡ true → Ready b (length z) (c .count) s
-    on-ready h i q =
-        let r = go-ready c (recipeOf b) seen h q in
-        record { good = r .0; counted = r .1; fits = i; fit = r .2 }
+      module _ (q : fitsOf c (length b) s ≡ true) where
+        pub on-run : (h : Held) → h ≡ advance l k (held s z) → accept h ≡ continueOf b s z k
+        on-run h w = past _ (rw (room, ← recipe-good .1, q) (ap accept w))
 
-    pub on-steps : c .number ≡ 1 → fitsOf c (length b) s ≡ true → s .steps ≤ sumLimits (itemsOf b)
-    on-steps h q = go-ready c (recipeOf b) seen h q .3
+        noted : fitsOf (notes (s .number) nothing l) (length b) s ≡ true
+        noted = rw (← recipe-good .1) q
+
+        pub on-ready : Ready b (length z) (c .count) s
+        on-ready = record { good = recipe-good .0; counted = recipe-good .2; fits = i; fit = fits-fit l (length b) s noted }
+
+        pub on-steps : s .steps ≤ sumLimits l
+        on-steps = few-steps l (length b) s noted
 
 -- a recipe's limits are few
 sum-few : (l : List Item) → sumLimits l ≤ 35 * length l

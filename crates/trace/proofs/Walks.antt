@@ -12,10 +12,11 @@ use Rattle.surfaces.specs.Surface.{passRule}
 use Rattle.surfaces.specs.declared.types.Ray.{Ray}
 use Rattle.surfaces.specs.declared.types.Landing.{Landing}
 use Rattle.surfaces.specs.declared.surface.Surface.{Surface}
+use Rattle.surfaces.proofs.Chains.{limit-bounds}
 use Rattle.recipe.specs.declared.record.Record.{Record}
 use Rattle.recipe.specs.Record.{readAt}
 use Rattle.recipe.specs.Scan.{Item, items, itemAt, placeOf}
-use Rattle.recipe.proofs.Records.{good-read, limit-bounds}
+use Rattle.recipe.proofs.Records.{good-read}
 use Rattle.recipe.proofs.Chain.{Chain, scan-chain, record-there}
 use Rattle.trace.specs.declared.state.State.{State}
 use Rattle.trace.specs.Leg.{width}

@@ -18,13 +18,13 @@ use Rattle.trace.specs.State.{Held, held, advance}
 use Rattle.trace.specs.Trace.{mostRecords, Reply, recipeOf, itemsOf, opticsOf, blank, beamOf, firstState, accept, begunOf, startAt, wholeOf}
 use Rattle.trace.specs.Ready.{Ready}
 use Rattle.trace.proofs.Standing.{total-limit, finished-all, at-end}
-use Rattle.trace.proofs.Starts.{Seen, seen-good, see, start-is, Admitted, admitted-by, admitted-is, refused-alike, no-items, limits-few}
+use Rattle.trace.proofs.Starts.{Finding, finds-good, finding, start-is, Admitted, admitted-by, admitted-is, refused-alike, no-items, limits-few}
 use Rattle.trace.proofs.Demand3.{shown, sound}
 
 -- what a check counted
-counted : (c : Checked) (r : Scan) → Seen 0 c r → r ≡ items (itemsIn r) → c .count ≡ length (itemsIn r)
+counted : (c : Checked) (r : Scan) → Finding 0 c r → r ≡ items (itemsIn r) → c .count ≡ length (itemsIn r)
 counted c (refused n p) s g = absurd (no-items g)
-counted c (items l) (seen-good e n k) g = k
+counted c (items l) (finds-good e n k) g = k
 
 module _ (y : List ℕ) (ray : Ray) (index : Float) (z : List Float) (c : Checked) (checked : c ≡ checkOf y mostRecords 0) (w : List Float) (blanked : w ≡ blank z)
     (a : Answer) (begun : a ≡ begunOf c 0 ray index (length w)) where
@@ -48,7 +48,7 @@ module _ (y : List ℕ) (ray : Ray) (index : Float) (z : List Float) (c : Checke
     pub whole-ready : Ready y (length w) (c .count) (a .state) × (a .state .steps < 2 ^ 62)
     unfolding advance
     whole-ready =
-        let k = counted c (recipeOf y) (see y 0 c checked) (admission .good) in
+        let k = counted c (recipeOf y) (finding y 0 c checked) (admission .good) in
         (rw (first-is, blanked) (record { good = admission .good; counted = k; fits = let r = admission .room in omega arith; fit = sound y ray index z admission 0 .fit }), rw first-is (omega arith))
 
     abbrev u : Trace

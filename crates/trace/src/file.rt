@@ -1,16 +1,14 @@
 // A program's file: the record of the ray, then the recipe.
 ghost use mathlib.Core.Path.{_≡_};
-ghost use Rattle.trace.specs.Trace.{Reply, startFileOf};
+ghost use Rattle.trace.specs.Trace.{startFileOf};
 use crate::run::Answer;
 use crate::run::MOST;
 use crate::run::begin;
 use crate::run::blank_out;
 use crate::run::refused;
+use recipe::SOURCE;
 use recipe::check;
 use recipe::read_source;
-
-// How many bytes the record of the ray takes.
-pub const SOURCE: usize = 60;
 
 pub fn start_file(file: &[u8], buf: &mut [f64]) -> Answer
     ensures { λ r. ⌜ record { answer = r; buffer = now (buf .exit) } ≡ startFileOf (now (file .entry)) (now (buf .entry)) ⌝ }

@@ -5,10 +5,10 @@ mod leg;
 mod run;
 mod state;
 
-pub use file::SOURCE;
 pub use file::start_file;
 pub use leg::Beam;
 pub use leg::WIDTH;
+pub use recipe::SOURCE;
 pub use run::Answer;
 pub use run::MOST;
 pub use run::start;

@@ -6,7 +6,7 @@ ghost use lib.Seq.{sets};
 ghost use Rattle.surfaces.specs.Told.{toldCrossing};
 ghost use Rattle.trace.specs.Leg.{width};
 ghost use Rattle.trace.specs.State.{held, surfaceLeft, advance};
-ghost use Rattle.trace.specs.Trace.{Reply, blank, standing, itemsOf, refusedAnswer, admission, begunOf, startOf, continueOf, wholeOf};
+ghost use Rattle.trace.specs.Trace.{blank, standing, itemsOf, refusedAnswer, admission, begunOf, startOf, continueOf, wholeOf};
 ghost use Rattle.trace.specs.Ready.{Ready};
 use crate::leg::Beam;
 use crate::leg::WIDTH;

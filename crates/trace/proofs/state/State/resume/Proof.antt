@@ -42,7 +42,7 @@ walk-requires c κs =
     let good = c .before .before .before .before .before .if1 .left in
     let fits = sym (c .before .before .fits2 .ensures) ∙ not-false (c .before .before .fits2 .result) (c .before .if3 .left) in (
       on-ready (a .recipe .now) (a .self) (a .buf .now) (a .allowed) _ checked good (long (c .before .before)) fits,
-      omega (arith, on-steps (a .recipe .now) (a .self) (a .buf .now) (a .allowed) _ checked good fits, limits-few (a .recipe .now)),
+      omega (arith, on-steps (a .recipe .now) (a .self) (a .buf .now) (a .allowed) _ checked good (long (c .before .before)) fits, limits-few (a .recipe .now)),
     )
 
 returns-4 : tie.Need-returns-4

@@ -1,0 +1,9 @@
+-- As the rule says. Assumes nothing.
+use mathlib.Core.Path.{refl}
+use Rattle.station.specs.Lent.{numbersOf}
+use Rattle.station.proofs.numbers_of.Statement.{statement}
+use Rattle.station.proofs.numbers_of.Tie as tie
+
+pub numbers-of-spec : {M : Type 1} → statement M
+unfolding numbersOf
+numbers-of-spec = tie.close (tie.spec (λ c. refl))

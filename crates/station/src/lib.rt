@@ -1,0 +1,177 @@
+// The trace under names that C can link. Its state is kept in two lent arrays, so that a controller can hold it across scans and power
+// cycles: the counts are surface number, place, passes, all steps and outcome; the numbers are t, origin, direction, index and path.
+// Whatever stands in them is answered.
+ghost use mathlib.Core.Path.{_≡_};
+ghost use mathlib.Core.List.{List};
+ghost use lib.Ieee.{Float};
+ghost use Rattle.trace.specs.Trace.{startOf, continueOf, wholeOf};
+ghost use Rattle.station.specs.Lent.{version, passesIn, outcomeIn, rayOf, stateIn, countsOf, numbersOf, verdictOf, left, told, toldIfAccepted};
+use surfaces::Ray;
+use surfaces::Vec3;
+use trace::Answer;
+use trace::Beam;
+use trace::State;
+use trace::start;
+use trace::whole;
+
+pub const COUNTS: usize = 5;
+
+pub const NUMBERS: usize = 9;
+
+// 1 or the refusal, and the refused record's place.
+#[repr(C)]
+pub struct Verdict {
+    pub number: u64,
+    pub place: u64,
+}
+
+// A count beyond its type becomes the type's largest, which fits no recipe.
+fn passes_in(n: u64) -> u16
+    ensures { λ r. ⌜ r ≡ passesIn n ⌝ }
+{
+    if n < 65536 { n as u16 } else { u16::MAX }
+}
+
+fn outcome_in(n: u64) -> u8
+    ensures { λ r. ⌜ r ≡ outcomeIn n ⌝ }
+{
+    if n < 256 { n as u8 } else { u8::MAX }
+}
+
+fn ray_of(ox: f64, oy: f64, oz: f64, dx: f64, dy: f64, dz: f64) -> Ray
+    ensures { λ r. ⌜ r ≡ rayOf ox oy oz dx dy dz ⌝ }
+{
+    Ray {
+        origin: Vec3 {
+            x: ox,
+            y: oy,
+            z: oz,
+        },
+        direction: Vec3 {
+            x: dx,
+            y: dy,
+            z: dz,
+        },
+    }
+}
+
+fn state_in(c: [u64; COUNTS], x: [f64; NUMBERS]) -> State
+    ensures { λ r. ⌜ r ≡ stateIn c x ⌝ }
+{
+    State {
+        number: c[0] as usize,
+        place: c[1] as usize,
+        passes: passes_in(c[2]),
+        t: x[0],
+        beam: Beam {
+            ray: ray_of(x[1], x[2], x[3], x[4], x[5], x[6]),
+            index: x[7],
+            path: x[8],
+        },
+        steps: c[3] as usize,
+        outcome: outcome_in(c[4]),
+    }
+}
+
+fn counts_of(s: State) -> [u64; COUNTS]
+    ensures { λ r. ⌜ r ≡ countsOf s ⌝ }
+{
+    [
+        s.number as u64,
+        s.place as u64,
+        s.passes as u64,
+        s.steps as u64,
+        s.outcome as u64,
+    ]
+}
+
+fn numbers_of(s: State) -> [f64; NUMBERS]
+    ensures { λ r. ⌜ r ≡ numbersOf s ⌝ }
+{
+    let b = s.beam;
+    let o = b.ray.origin;
+    let d = b.ray.direction;
+    [s.t, o.x, o.y, o.z, d.x, d.y, d.z, b.index, b.path]
+}
+
+fn verdict_of(a: Answer) -> Verdict
+    ensures { λ r. ⌜ r ≡ verdictOf a ⌝ }
+{
+    Verdict {
+        number: a.number as u64,
+        place: a.place as u64,
+    }
+}
+
+// Start and whole write the state that they answer.
+fn tell(a: Answer, counts: &mut [u64; COUNTS], numbers: &mut [f64; NUMBERS]) -> Verdict
+    ensures { λ r. ⌜ ((z : List Float) → left r (now (counts .exit)) (now (numbers .exit)) z ≡ told (record { answer = a; buffer = z })) ⌝ }
+{
+    *counts = counts_of(a.state);
+    *numbers = numbers_of(a.state);
+    verdict_of(a)
+}
+
+#[no_mangle]
+pub extern "C" fn pilingrue_start(
+    recipe: &[u8],
+    ox: f64,
+    oy: f64,
+    oz: f64,
+    dx: f64,
+    dy: f64,
+    dz: f64,
+    index: f64,
+    buf: &mut [f64],
+    counts: &mut [u64; COUNTS],
+    numbers: &mut [f64; NUMBERS],
+) -> Verdict
+    ensures { λ r. ⌜ left r (now (counts .exit)) (now (numbers .exit)) (now (buf .exit)) ≡ told (startOf (now (recipe .entry)) (rayOf ox oy oz dx dy dz) index (now (buf .entry))) ⌝ }
+{
+    tell(start(recipe, ray_of(ox, oy, oz, dx, dy, dz), index, buf), counts, numbers)
+}
+
+// A refused one writes neither arrays nor buffer.
+#[no_mangle]
+pub extern "C" fn pilingrue_continue(
+    recipe: &[u8],
+    buf: &mut [f64],
+    counts: &mut [u64; COUNTS],
+    numbers: &mut [f64; NUMBERS],
+    allowed: u16,
+) -> Verdict
+    ensures { λ r. ⌜ left r (now (counts .exit)) (now (numbers .exit)) (now (buf .exit)) ≡ toldIfAccepted (now (counts .entry)) (now (numbers .entry)) (continueOf (now (recipe .entry)) (stateIn (now (counts .entry)) (now (numbers .entry))) (now (buf .entry)) allowed) ⌝ }
+{
+    let a = state_in(*counts, *numbers).resume(recipe, buf, allowed);
+    if a.number != 1 {
+        return verdict_of(a);
+    }
+    tell(a, counts, numbers)
+}
+
+#[no_mangle]
+pub extern "C" fn pilingrue_whole(
+    recipe: &[u8],
+    ox: f64,
+    oy: f64,
+    oz: f64,
+    dx: f64,
+    dy: f64,
+    dz: f64,
+    index: f64,
+    buf: &mut [f64],
+    counts: &mut [u64; COUNTS],
+    numbers: &mut [f64; NUMBERS],
+) -> Verdict
+    ensures { λ r. ⌜ left r (now (counts .exit)) (now (numbers .exit)) (now (buf .exit)) ≡ told (wholeOf (now (recipe .entry)) (rayOf ox oy oz dx dy dz) index (now (buf .entry))) ⌝ }
+{
+    tell(whole(recipe, ray_of(ox, oy, oz, dx, dy, dz), index, buf), counts, numbers)
+}
+
+// The version of this interface, for a program to hold its header's against.
+#[no_mangle]
+pub extern "C" fn pilingrue_version() -> u64
+    ensures { λ r. ⌜ r ≡ version ⌝ }
+{
+    1
+}

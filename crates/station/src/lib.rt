@@ -128,7 +128,11 @@ pub extern "C" fn pilingrue_start(
 ) -> Verdict
     ensures { λ r. ⌜ left r (now (counts .exit)) (now (numbers .exit)) (now (buf .exit)) ≡ told (startOf (now (recipe .entry)) (rayOf ox oy oz dx dy dz) index (now (buf .entry))) ⌝ }
 {
-    tell(start(recipe, ray_of(ox, oy, oz, dx, dy, dz), index, buf), counts, numbers)
+    tell(
+        start(recipe, ray_of(ox, oy, oz, dx, dy, dz), index, buf),
+        counts,
+        numbers,
+    )
 }
 
 // A refused one writes neither arrays nor buffer.
@@ -165,7 +169,11 @@ pub extern "C" fn pilingrue_whole(
 ) -> Verdict
     ensures { λ r. ⌜ left r (now (counts .exit)) (now (numbers .exit)) (now (buf .exit)) ≡ told (wholeOf (now (recipe .entry)) (rayOf ox oy oz dx dy dz) index (now (buf .entry))) ⌝ }
 {
-    tell(whole(recipe, ray_of(ox, oy, oz, dx, dy, dz), index, buf), counts, numbers)
+    tell(
+        whole(recipe, ray_of(ox, oy, oz, dx, dy, dz), index, buf),
+        counts,
+        numbers,
+    )
 }
 
 // The version of this interface, for a program to hold its header's against.

@@ -8,7 +8,7 @@ use Rattle.numbers.specs.Arithmetic.{if_then_else_}
 use Rattle.surfaces.specs.declared.types.Ray.{Ray}
 use Rattle.trace.specs.declared.state.State.{State}
 use Rattle.trace.specs.declared.run.Answer.{Answer}
-use Rattle.trace.specs.Trace.{Reply}
+use Rattle.trace.specs.Trace.{Reply, continueOf}
 use Rattle.station.specs.declared.Verdict.{Verdict}
 
 abbrev pub version : ℕ
@@ -69,3 +69,7 @@ told r = left (verdictOf (r .answer)) (countsOf (r .answer .state)) (numbersOf (
 -- a refused continuation leaves the arrays as they were
 abbrev pub toldIfAccepted : List ℕ → List Float → Reply → Left
 toldIfAccepted c x r = if eqb (r .answer .number) 1 then told r else left (verdictOf (r .answer)) c x (r .buffer)
+
+-- continue, on the state that the arrays hold
+unfoldable pub continued : List ℕ → List ℕ → List Float → List Float → ℕ → Left
+continued b c x z allowed = toldIfAccepted c x (continueOf b (stateIn c x) z allowed)

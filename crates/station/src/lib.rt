@@ -4,8 +4,8 @@
 ghost use mathlib.Core.Path.{_≡_};
 ghost use mathlib.Core.List.{List};
 ghost use lib.Ieee.{Float};
-ghost use Rattle.trace.specs.Trace.{startOf, continueOf, wholeOf};
-ghost use Rattle.station.specs.Lent.{version, passesIn, outcomeIn, rayOf, stateIn, countsOf, numbersOf, verdictOf, left, told, toldIfAccepted};
+ghost use Rattle.trace.specs.Trace.{startOf, wholeOf};
+ghost use Rattle.station.specs.Lent.{version, passesIn, outcomeIn, rayOf, stateIn, countsOf, numbersOf, verdictOf, left, told, continued};
 use surfaces::Ray;
 use surfaces::Vec3;
 use trace::Answer;
@@ -144,7 +144,7 @@ pub extern "C" fn pilingrue_continue(
     numbers: &mut [f64; NUMBERS],
     allowed: u16,
 ) -> Verdict
-    ensures { λ r. ⌜ left r (now (counts .exit)) (now (numbers .exit)) (now (buf .exit)) ≡ toldIfAccepted (now (counts .entry)) (now (numbers .entry)) (continueOf (now (recipe .entry)) (stateIn (now (counts .entry)) (now (numbers .entry))) (now (buf .entry)) allowed) ⌝ }
+    ensures { λ r. ⌜ left r (now (counts .exit)) (now (numbers .exit)) (now (buf .exit)) ≡ continued (now (recipe .entry)) (now (counts .entry)) (now (numbers .entry)) (now (buf .entry)) allowed ⌝ }
 {
     let a = state_in(*counts, *numbers).resume(recipe, buf, allowed);
     if a.number != 1 {

@@ -87,7 +87,7 @@ module _ (y : List ℕ) (ray : Ray) (index : Float) (z : List Float) (a : Admitt
   pub genuine-fits : (n : ℕ) → fitsOf (notes (advance l n first .state .number) nothing l) (length y) (advance l n first .state) ≡ true
   genuine-fits n = fit-fits l (length y) (advance l n first .state) (sound n .fit) (few n)
 
-  call : (n k : ℕ) → continueOf y (advance l n first .state) (advance l n first .buffer) k ≡ accept (advance l (n + k) first)
+  pub call : (n k : ℕ) → continueOf y (advance l n first .state) (advance l n first .buffer) k ≡ accept (advance l (n + k) first)
   unfolding continueOf
   call n k =
       let h : Held = advance l n first in
@@ -124,11 +124,11 @@ module _ (y : List ℕ) (ray : Ray) (index : Float) (z : List Float) (h : startO
   unfolding startOf startAt
   admitted-start = admitted-by 0 ray index (blank z) (recipeOf y) (scan-sound y mostRecords 0) _ h
 
-  started : startOf y ray index z ≡ accept (held (firstState (length (itemsOf y)) (beamOf ray index)) (blank z))
+  pub started : startOf y ray index z ≡ accept (held (firstState (length (itemsOf y)) (beamOf ray index)) (blank z))
   unfolding startOf startAt
   started = admitted-is 0 ray index (blank z) (recipeOf y) admitted-start _
 
-  after-calls : (ks : List ℕ) → calls y ks (startOf y ray index z) ≡ accept (advance (itemsOf y) (sum ks) (held (firstState (length (itemsOf y)) (beamOf ray index)) (blank z)))
+  pub after-calls : (ks : List ℕ) → calls y ks (startOf y ray index z) ≡ accept (advance (itemsOf y) (sum ks) (held (firstState (length (itemsOf y)) (beamOf ray index)) (blank z)))
   unfolding advance
   after-calls ks =
       ap (λ (r : Reply). calls y ks r) started ∙ row y ray index z admitted-start ks 0

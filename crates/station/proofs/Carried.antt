@@ -1,0 +1,103 @@
+-- A state that fits comes back from the arrays as it went in, and counts beyond its types fit no recipe. Assumes nothing.
+use Prim.Native.Nat.{ℕ, _+_, _*_, _≤_, _<_}
+use mathlib.Core.Path.{_≡_, refl, sym, _∙_, ap}
+use mathlib.Core.Logic.{_⊎_, inl, inr}
+use mathlib.Core.List.{List, [], _∷_}
+use mathlib.Core.Bool.{Bool, true, false, _&&_, _||_}
+use native.Mathlib.Omega.{arith}
+use native.Mathlib.Nat.{add-zero, zero-add}
+use lib.ListN.{length, getD}
+use lib.Dec.{eqb, ltb, leb}
+use lib.Ieee.{Float}
+use borrow.Author.Tests.{ne-eqb, lt-ltb, le-ltb, eqb-true, leb-true}
+use Rattle.surfaces.specs.Told.{stops}
+use Rattle.surfaces.specs.declared.types.Ray.{Ray}
+use Rattle.surfaces.proofs.Choice.{both}
+use Rattle.surfaces.proofs.Chains.{limit-bounds}
+use Rattle.recipe.specs.Scan.{Item, Scan, refused, items, notes, nothing, itemAt}
+use Rattle.recipe.proofs.Scans.{Sound, scan-sound}
+use Rattle.trace.specs.declared.state.State.{State}
+use Rattle.trace.specs.Leg.{width}
+use Rattle.trace.specs.State.{Held, held, advance, fitsOf}
+use Rattle.trace.specs.Trace.{mostRecords, recipeOf, itemsOf, blank, beamOf, firstState, accept, startOf, continueOn, continueOf}
+use Rattle.trace.specs.Ready.{Stands, walking, arrived, stopped}
+use Rattle.trace.specs.Demand3.{sum, Accepted, called}
+use Rattle.trace.proofs.Fits.{fits-fit}
+use Rattle.trace.proofs.Starts.{Admitted}
+use Rattle.trace.proofs.Demand3.{sound, call, admitted-start, started, after-calls}
+use Rattle.station.specs.Lent.{passesIn, outcomeIn, stateIn, countsOf, numbersOf, Left, left, told, toldIfAccepted, continued}
+use Rattle.station.specs.Carried.{scans, Beyond, unfit, Carried}
+
+at-most-9 : (n : ℕ) → stops n ≡ true → n ≤ 9
+unfolding stops
+at-most-9 n h = by (eqb n 2) refl h
+  where
+    by : (t : Bool) → eqb n 2 ≡ t → (t || (leb 4 n && leb n 9)) ≡ true → n ≤ 9
+    by true e h = omega (arith, eqb-true n 2 e)
+    by false e h = leb-true n 9 (both (leb 4 n) _ h .1)
+
+-- what stands on a recipe has small counts
+small : (l : List Item) (s : State) → Stands l s → (s .passes < 35) × (s .outcome ≤ 9)
+small l s (walking o n p) = (omega (arith, p, limit-bounds (itemAt l (s .number) .optic .surface .kind) .1), omega (arith, o))
+small l s (arrived o n p) = (omega (arith, p), omega (arith, o))
+small l s (stopped o n p) = (omega (arith, p), at-most-9 (s .outcome) o)
+
+read-back : (s : State) → (s .passes < 35) × (s .outcome ≤ 9) → stateIn (countsOf s) (numbersOf s) ≡ s
+unfolding stateIn countsOf numbersOf passesIn outcomeIn
+read-back s h = rw (lt-ltb (s .passes) 65536 (omega (arith, h .0)), lt-ltb (s .outcome) 256 (omega (arith, h .1)))
+
+-- an accepted start's scans
+module _ (b : List ℕ) (ray : Ray) (index : Float) (z : List Float) (a : Admitted (recipeOf b) ray index (blank z)) where
+  abbrev at : ℕ → Held
+  at n = advance (itemsOf b) n (held (firstState (length (itemsOf b)) (beamOf ray index)) (blank z))
+
+  scan : (n k : ℕ) → continued b (countsOf (at n .state)) (numbersOf (at n .state)) (at n .buffer) k ≡ told (accept (at (n + k)))
+  unfolding continued
+  scan n k =
+      rw (read-back (at n .state) (small (itemsOf b) (at n .state) (sound b ray index z a n .fit .stands)), call b ray index z a n k)
+
+  row : (ks : List ℕ) (n : ℕ) → scans b ks (told (accept (at n))) ≡ told (accept (at (n + sum ks)))
+  unfolding scans sum
+  row [] n = rw (add-zero n)
+  row (k ∷ ks) n =
+      let e : n + k + sum ks ≡ n + (k + sum ks) = omega arith in
+      ap (λ (w : Left). scans b ks w) (scan n k) ∙ row ks (n + k) ∙ ap (λ (m : ℕ). told (accept (at m))) e
+
+carries : (b : List ℕ) (ray : Ray) (index : Float) (z : List Float) (ks : List ℕ) → Accepted b ray index z
+    → scans b ks (told (startOf b ray index z)) ≡ told (called b ray index z ks)
+unfolding advance
+carries b ray index z ks h =
+    rw (started b ray index z h) (rw (zero-add (sum ks)) at (row b ray index z (admitted-start b ray index z h) ks 0))
+    ∙ sym (ap told (after-calls b ray index z h ks))
+
+module _ (c : List ℕ) (x z : List Float) (allowed : ℕ) (h : Beyond c) where
+  large : (35 ≤ stateIn c x .passes) ⊎ (10 ≤ stateIn c x .outcome)
+  unfolding stateIn passesIn outcomeIn
+  large = by h
+    where
+      by : Beyond c → (35 ≤ passesIn (getD c 2 0)) ⊎ (10 ≤ outcomeIn (getD c 4 0))
+      by (inl p) = inl (rw (le-ltb (getD c 2 0) 65536 p) (omega arith))
+      by (inr p) = inr (rw (le-ltb (getD c 4 0) 256 p) (omega arith))
+
+  never-fits : (l : List Item) (end : ℕ) (t : Bool) → fitsOf (notes (stateIn c x .number) nothing l) end (stateIn c x) ≡ t → t ≡ false
+  never-fits l end false e = refl
+  never-fits l end true e = absurd (too-large large (small l (stateIn c x) (fits-fit l end (stateIn c x) e .stands)))
+    where
+      too-large : (35 ≤ stateIn c x .passes) ⊎ (10 ≤ stateIn c x .outcome) → (stateIn c x .passes < 35) × (stateIn c x .outcome ≤ 9) → ⊥
+      too-large (inl p) q = omega (arith, p, q .0)
+      too-large (inr p) q = omega (arith, p, q .1)
+
+  refuses-on : (r : Scan) → Sound r → (end : ℕ) → toldIfAccepted c x (continueOn r end (stateIn c x) z allowed) ≡ left (unfit r (length z)) c x z
+  refuses-on (refused n p) s end = rw (ne-eqb n 1 s)
+  refuses-on (items l) s end = by (ltb (length z) (width * length l)) refl
+    where
+      by : (t : Bool) → ltb (length z) (width * length l) ≡ t → toldIfAccepted c x (continueOn (items l) end (stateIn c x) z allowed) ≡ left (unfit (items l) (length z)) c x z
+      by true e = rw e
+      by false e = rw (e, never-fits l end _ refl)
+
+refuses : (b c : List ℕ) (x z : List Float) (allowed : ℕ) → Beyond c → continued b c x z allowed ≡ left (unfit (recipeOf b) (length z)) c x z
+unfolding continued continueOf
+refuses b c x z allowed h = refuses-on c x z allowed h (recipeOf b) (scan-sound b mostRecords 0) (length b)
+
+pub carried : Carried
+carried = record { carries = carries; refuses = refuses }

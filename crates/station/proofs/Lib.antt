@@ -1,0 +1,2 @@
+-- What a controller may count on.
+pub mod Carried

@@ -8,7 +8,7 @@ fn main() {
     let archives = std::env::var("MEASURED").expect("MEASURED names the folder with the archives");
     println!("cargo:rerun-if-env-changed=MEASURED");
     println!("cargo:rustc-link-search=native={archives}");
-    for name in ["measured", "traced"] {
+    for name in ["measured", "station"] {
         println!("cargo:rerun-if-changed={archives}/lib{name}.a");
         println!("cargo:rustc-link-lib=static={name}");
     }

@@ -1,4 +1,4 @@
-//! Our traces of whole recipes beside a loop over the Rust text's functions; and one scan of ours on recipes of several lengths.
+//! Our traces of whole recipes beside a loop over the Rust text's functions; and how the cost of ours grows with records, coefficients and passes.
 //!
 //! The folder that LENSES names has a lens a file, as `bench/lenses` writes them. Its surfaces are made beforehand for the loop, which meets
 //! each, takes its normal where the intersection does not hand it out, refracts or reflects, and writes the record; ours reads the
@@ -26,16 +26,39 @@ const STEPS: usize = 12;
 /// About how many surfaces the rays of a row meet.
 const MET: usize = 1 << 14;
 
-type Traced = unsafe extern "C" fn(*const u8, usize, f64, f64, f64, f64, f64, f64, f64, *mut f64, usize) -> f64;
+#[repr(C)]
+struct Verdict {
+    number: u64,
+    place: u64,
+}
 
 unsafe extern "C" {
-    fn traced_whole(recipe: *const u8, length: usize, ox: f64, oy: f64, oz: f64, dx: f64, dy: f64, dz: f64, index: f64, buf: *mut f64, room: usize) -> f64;
-    fn traced_scan(recipe: *const u8, length: usize, ox: f64, oy: f64, oz: f64, dx: f64, dy: f64, dz: f64, index: f64, buf: *mut f64, room: usize) -> f64;
+    fn pilingrue_whole(
+        recipe: *const u8, length: usize, ox: f64, oy: f64, oz: f64, dx: f64, dy: f64, dz: f64, index: f64,
+        buf: *mut f64, room: usize, counts: *mut u64, numbers: *mut f64,
+    ) -> Verdict;
+    fn pilingrue_continue(recipe: *const u8, length: usize, buf: *mut f64, room: usize, counts: *mut u64, numbers: *mut f64, allowed: u16) -> Verdict;
+}
+
+/// The sum of a beam's numbers, as the Rust loop has it, of the state's: t, origin, direction, index, path.
+fn sum(x: &[f64; 9]) -> f64 {
+    x[8] + x[7] + x[1] + x[2] + x[3] + x[4] + x[5] + x[6]
 }
 
 /// Ours, from air.
-fn ours(f: Traced, recipe: &[u8], r: &Numbers, buf: &mut [f64]) -> f64 {
-    unsafe { f(recipe.as_ptr(), recipe.len(), r[0], r[1], r[2], r[3], r[4], r[5], 1.0, buf.as_mut_ptr(), buf.len()) }
+fn ours(recipe: &[u8], r: &Numbers, buf: &mut [f64]) -> f64 {
+    let (mut counts, mut numbers) = ([0; 5], [0.0; 9]);
+    let [ox, oy, oz, dx, dy, dz] = *r;
+    let (buf, room) = (buf.as_mut_ptr(), buf.len());
+    unsafe { pilingrue_whole(recipe.as_ptr(), recipe.len(), ox, oy, oz, dx, dy, dz, 1.0, buf, room, counts.as_mut_ptr(), numbers.as_mut_ptr()) };
+    sum(&numbers)
+}
+
+/// One scan of ours before the first surface, from air.
+fn scan(recipe: &[u8], [ox, oy, oz, dx, dy, dz]: Numbers, buf: &mut [f64], allowed: u16) -> f64 {
+    let (mut counts, mut numbers) = ([0; 5], [0.0, ox, oy, oz, dx, dy, dz, 1.0, 0.0]);
+    unsafe { pilingrue_continue(recipe.as_ptr(), recipe.len(), buf.as_mut_ptr(), buf.len(), counts.as_mut_ptr(), numbers.as_mut_ptr(), allowed) };
+    sum(&numbers)
 }
 
 enum Shape {
@@ -112,36 +135,80 @@ fn whole(name: &str, recipe: &[u8], z: f64, wide: f64, steep: f64) {
     let rays = through(&optics, z, wide, steep);
     let (mut a, mut b) = (vec![0.0; WIDTH * optics.len()], vec![0.0; WIDTH * optics.len()]);
     for r in &rays {
-        ours(traced_whole, recipe, r, &mut a);
+        ours(recipe, r, &mut a);
         by_rust(&optics, ray(r), &mut b).unwrap();
         for (i, (x, y)) in a.iter().zip(&b).enumerate().filter(|(i, _)| i % WIDTH != STEPS) {
             assert_eq!(x.to_bits(), y.to_bits(), "{name}: another number {} of record {} at {r:?}", i % WIDTH, i / WIDTH);
         }
     }
     row(name, &rays,
-        &mut |r| ours(traced_whole, recipe, r, &mut a),
+        &mut |r| ours(recipe, r, &mut a),
         &mut |r| by_rust(black_box(&optics), ray(r), &mut b).unwrap_or(0.0));
 }
 
-/// One scan that allows a step, on the first 1, 64 and 512 of these conics.
-fn scans(recipe: &[u8], length: usize) {
+/// Prints the time of each of some pieces of work beside that of the first, and what one more of what they are counted by costs.
+fn growth<const N: usize>(title: &str, of: [usize; N], calls: [usize; N], mut call: impl FnMut(usize, f64) -> f64) {
+    let times: [f64; N] = least(|i| {
+        let mut last = 0.0;
+        for _ in 0..calls[i] {
+            last = call(i, last * 0.0);
+        }
+        black_box(last);
+    });
+    let ns: [f64; N] = std::array::from_fn(|i| times[i] / calls[i] as f64 * 1e9);
+    println!("\n{title}");
+    for (n, here) in of.iter().zip(ns) {
+        println!("{n:5} {:20.2}   ({here:.0} ns)", here / ns[0]);
+    }
+    println!("one more {:18.3}", (ns[N - 1] - ns[0]) / ns[0] / (of[N - 1] - of[0]) as f64);
+}
+
+/// One scan that allows a step, on so many conics.
+fn by_records(conics: &[u8], length: usize) {
     const RECORDS: [usize; 3] = [1, 64, 512];
     let mut buf = vec![0.0; WIDTH * RECORDS[2]];
-    let calls = |i: usize| 4096 / RECORDS[i];
-    let times: [f64; 3] = least(|i| {
-        buf[0] = 0.0;
-        let mut last = 0.0;
-        for _ in 0..calls(i) {
-            last = ours(traced_scan, &recipe[..length * RECORDS[i]], &[4.0 + last * 0.0, 2.0, -5.0, 0.0, 0.0, 1.0], &mut buf);
-        }
-        assert!(buf[0] == 1.0);
+    growth("one scan that allows a step, by records", RECORDS, RECORDS.map(|n| 4096 / n), |i, zero| {
+        scan(&conics[..length * RECORDS[i]], [4.0 + zero, 2.0, -5.0, 0.0, 0.0, 1.0], &mut buf, 1)
     });
-    let ns: [f64; 3] = std::array::from_fn(|i| times[i] / calls(i) as f64 * 1e9);
-    println!("one scan that allows a step, ratio to that on 1 record");
-    for (records, ns_here) in RECORDS.iter().zip(ns) {
-        println!("{records:5} {:20.2}   ({ns_here:.0} ns)", ns_here / ns[0]);
-    }
-    println!("a record more {:13.3}", (ns[2] - ns[0]) / ns[0] / (RECORDS[2] - RECORDS[0]) as f64);
+}
+
+/// A recipe of one even asphere with the first of these coefficients.
+fn even(count: usize) -> Vec<u8> {
+    const COEFFICIENTS: [f64; 8] = [1e-4, -1e-6, 1e-8, -1e-10, 1e-12, -1e-14, 1e-16, -1e-18];
+    let numbers = [&[0.0, 1.5, 0.08, 0.5, 8.0], &COEFFICIENTS[..count]].concat();
+    let mut record = ((2 + 8 * numbers.len()) as u16).to_le_bytes().to_vec();
+    record.extend(2u16.to_le_bytes());
+    record.extend(numbers.iter().flat_map(|x| x.to_le_bytes()));
+    record
+}
+
+const STEEP: Numbers = [5.0, 3.0, -10.0, 0.1, -0.05, 0.99];
+
+fn by_coefficients() {
+    const COUNTS: [usize; 3] = [0, 4, 8];
+    let recipes = COUNTS.map(even);
+    let mut buf = [0.0; WIDTH];
+    let calls = [1024; 3];
+    growth("a whole trace of one even asphere, by coefficients", COUNTS, calls, |i, zero| {
+        ours(&recipes[i], &[STEEP[0] + zero, STEEP[1], STEEP[2], STEEP[3], STEEP[4], STEEP[5]], &mut buf)
+    });
+    let steps = recipes.map(|recipe| {
+        ours(&recipe, &STEEP, &mut buf);
+        assert!(buf[0] == 1.0);
+        buf[STEPS]
+    });
+    println!("passes {steps:?}");
+}
+
+/// One scan, on an even asphere with eight coefficients that it does not come to the end of.
+fn by_passes() {
+    const PASSES: [usize; 3] = [1, 2, 3];
+    let recipe = even(8);
+    let mut buf = [0.0; WIDTH];
+    growth("one scan of one even asphere with 8 coefficients, by passes allowed", PASSES, [1024; 3], |i, zero| {
+        scan(&recipe, [STEEP[0] + zero, STEEP[1], STEEP[2], STEEP[3], STEEP[4], STEEP[5]], &mut buf, PASSES[i] as u16)
+    });
+    assert!(buf[0] == 0.0);
 }
 
 fn main() {
@@ -152,6 +219,7 @@ fn main() {
     whole("phone lens", &lens("phone"), -1.0, 0.8, 0.3);
     let relay = lens("relay");
     whole("512 conics", &relay, -5.0, 8.0, 0.02);
-    println!();
-    scans(&relay, relay.len() / 512);
+    by_records(&relay, relay.len() / 512);
+    by_coefficients();
+    by_passes();
 }

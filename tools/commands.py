@@ -1,0 +1,88 @@
+"""What the tools share: reading, writing, and ending with one line and status 2 where something is wrong."""
+import os
+import sys
+
+import prescription
+import records
+
+STANDARD_INPUT = "standard input"
+
+
+class Refused(Exception):
+    """One line for standard error."""
+
+
+def run(main):
+    """Ends the process with main's status, 0 if it has none."""
+    try:
+        main()
+    except Refused as refused:
+        print(refused, file=sys.stderr)
+        sys.exit(2)
+    except KeyboardInterrupt:
+        sys.exit(130)
+
+
+def name_of(path):
+    return STANDARD_INPUT if path == "-" else path
+
+
+def contents(path):
+    """The bytes of a file, or of standard input for -."""
+    try:
+        if path != "-":
+            with open(path, "rb") as stream:
+                return stream.read()
+        if sys.stdin is None:
+            raise Refused(f"{STANDARD_INPUT} is closed")
+        return sys.stdin.buffer.read()
+    except OSError as wrong:
+        raise Refused(f"{name_of(path)}: {reason_of(wrong)}") from None
+    except ValueError:
+        # a name with a zero byte
+        raise Refused(f"{path!r} is no file's name") from None
+
+
+def reason_of(wrong):
+    return wrong.strerror or str(wrong)
+
+
+def put(data):
+    """All at once, so that nothing is written where something is wrong."""
+    try:
+        if sys.stdout is None:
+            raise Refused("standard output is closed")
+        sys.stdout.buffer.write(data)
+        sys.stdout.buffer.flush()
+    except OSError as wrong:
+        # what is left in the buffer would be tried again at the end
+        os.dup2(os.open(os.devnull, os.O_WRONLY), sys.stdout.fileno())
+        raise Refused(f"standard output: {reason_of(wrong)}") from None
+
+
+def text_of(data, name):
+    """Of UTF-8, with either kind of line end."""
+    try:
+        return data.decode("utf-8-sig").replace("\r\n", "\n")
+    except UnicodeDecodeError as wrong:
+        raise Refused(f"{name}:{data[: wrong.start].count(10) + 1}: not text in UTF-8") from None
+
+
+def located_text(data, name):
+    """A text prescription with its lines."""
+    if 0 in data:
+        raise Refused(f"{name}:{data[: data.index(0)].count(10) + 1}: a zero byte, which no text has: are these a recipe's bytes?")
+    try:
+        return prescription.read(text_of(data, name))
+    except prescription.BadText as wrong:
+        raise Refused(f"{name}:{wrong.line}: {wrong.reason}") from None
+
+
+def is_text(data):
+    """Every record has a zero byte, in its length; a text has none."""
+    return 0 not in data
+
+
+def prescription_of(data, name):
+    """Of a text or of bytes, told apart by contents. Bytes that are no recipe are Malformed."""
+    return located_text(data, name).prescription if is_text(data) else records.parsed(data)

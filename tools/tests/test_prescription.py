@@ -1,0 +1,161 @@
+import random
+import struct
+import unittest
+
+import trying
+from numerals import number, numeral, of_pattern, pattern
+from prescription import BadText, read, written
+from records import Malformed, Prescription, Surface, bytes_of, faults, file, file_places, parsed, record
+
+PLANE = "conic vertex=0 index=1.5 c=0 k=0 semi=10"
+RAY = "ray x=0 y=0 z=-5 dx=0 dy=0 dz=1 index=1"
+
+
+def surface(line):
+    return read(line).prescription.surfaces[0]
+
+
+def refusal(text):
+    try:
+        read(text)
+    except BadText as wrong:
+        return wrong.line, wrong.reason
+    return None
+
+
+class Numbers(unittest.TestCase):
+    def test_each_way_of_writing(self):
+        for text, x in (("6", 6.0), ("+.5", 0.5), ("1.e-3", 0.001), ("0x1.8p-3", 0.1875), ("-0X.8P1", -1.0), ("inf", float("inf"))):
+            self.assertEqual(number(text), x)
+        self.assertEqual(pattern(number("-0")), "8000000000000000")
+        self.assertEqual(pattern(number("nan:FFF0000000000001")), "FFF0000000000001")
+
+    def test_what_is_no_number(self):
+        for text in ("", ".", "1,5", "1_0", "0x3FF0000000000000", "0x1.8", "nan", "NaN", "infinity", "1e999", "0x1p1024", "١", "1 ",
+                     "nan:3FF0000000000000", "nan:7FF8", "nan:"):
+            with self.assertRaises(ValueError, msg=text):
+                number(text)
+
+    def test_any_pattern_goes_forth_and_back(self):
+        draw = random.Random(1)
+        edges = [0, 1, 1 << 63, 0x7FF0000000000000, 0xFFF0000000000000, 0x7FF0000000000001, 0x7FEFFFFFFFFFFFFF, 0x000FFFFFFFFFFFFF]
+        for bits in [*edges, *(draw.getrandbits(64) for _ in range(2000))]:
+            digits = f"{bits:016X}"
+            for hexadecimal in (False, True):
+                self.assertEqual(pattern(number(numeral(of_pattern(digits), hexadecimal))), digits)
+
+
+class Text(unittest.TestCase):
+    def test_kinds(self):
+        self.assertEqual(surface("conic vertex=1 index=2 c=3 k=4 semi=5"), Surface("conic", 1, 2, [3, 4, 5]))
+        self.assertEqual(surface("even semi=5 k=4 c=3 index=2 vertex=1 a2=7 a1=6"), Surface("even", 1, 2, [3, 4, 5, 6, 7]))
+        self.assertEqual(surface("mirror biconic vertex=1 index=2 cx=3 kx=4 cy=5 ky=6 semi=7"), Surface("biconic", 1, 2, [3, 4, 5, 6, 7], True))
+        self.assertEqual(surface("toroid vertex=1 index=2 rx=3 cy=4 ky=5 semi=6"), Surface("toroid", 1, 2, [3, 4, 5, 6]))
+
+    def test_a_radius_is_rounded_once(self):
+        self.assertEqual(surface("conic vertex=0 index=1 radius=-62.75 k=0 semi=1").numbers[0], -1 / 62.75)
+        self.assertEqual(surface("conic vertex=0 index=1 radius=inf k=0 semi=1").numbers[0], 0.0)
+        self.assertEqual(surface("biconic vertex=0 index=1 radiusx=3 kx=0 radiusy=7 ky=0 semi=1").numbers[0:3:2], [1 / 3, 1 / 7])
+
+    def test_ray_comments_and_blank_lines(self):
+        located = read(f"# one\n\n  {RAY} # two\n\t{PLANE}\n")
+        self.assertEqual(located.prescription.ray, [0, 0, -5, 0, 0, 1, 1])
+        self.assertEqual((located.line_of(None), located.line_of(0)), (3, 4))
+        self.assertEqual(read("").prescription, Prescription(None, []))
+
+    def test_refused_with_line_and_reason(self):
+        for text, line, reason in (
+            ("cone vertex=0", 1, "'cone' is no kind: there are conic, even, biconic, toroid, ray, and mirror before a kind"),
+            ("mirror", 1, "a mirror's kind is missing, one of conic, even, biconic, toroid"),
+            ("mirror ray x=0", 1, "'ray' is no kind"),
+            (f"\n{PLANE} d=1", 2, "a surface of kind conic has no 'd': it has vertex, index, c, k, semi"),
+            (f"{PLANE} k=1", 1, "k is given twice"),
+            (f"{PLANE} radius=1", 1, "c and radius are the same number, and both are given"),
+            (f"{PLANE} a1=0", 1, "only an even asphere has coefficients"),
+            ("conic vertex=0 index=1 c=0 k=0", 1, "semi is missing: a surface of kind conic needs it"),
+            ("conic vertex=0 index=1 k=0 semi=1", 1, "c or radius is missing"),
+            ("conic vertex=0 index=1 c=1/3 k=0 semi=1", 1, "c: '1/3' is no number"),
+            ("conic vertex=0 index=1 c= k=0 semi=1", 1, "c: '' is no number"),
+            ("conic vertex=0 index=1 radius=0 k=0 semi=1", 1, "radius: 1/0 is no curvature"),
+            ("conic vertex=0 index=1 radius=nan:7FF8000000000000 k=0 semi=1", 1, "is no curvature"),
+            ("conic vertex 0", 1, "'vertex' is not of the form name=number"),
+            ("conic =0", 1, "'=0' is not of the form name=number"),
+            ("even vertex=0 index=1 c=0 k=0 semi=1 a1=0 a3=0", 1, "a3 is given without a2"),
+            ("even vertex=0 index=1 c=0 k=0 semi=1 a10=0", 1, "a10 is given without a1"),
+            ("even vertex=0 index=1 c=0 k=0 semi=1 a01=0", 1, "has no 'a01'"),
+            ("even vertex=0 index=1 c=0 k=0 semi=1 " + " ".join(f"a{i}=0" for i in range(1, 10)), 1, "at most 8 coefficients"),
+            (f"{PLANE}\n{RAY}", 2, "the ray comes before the surfaces"),
+            (f"{RAY}\n{RAY}", 2, "there is a ray already, in line 1"),
+            ("ray x=0", 1, "y is missing: a ray needs it"),
+            (f"{RAY} semi=1", 1, "a ray has no 'semi'"),
+            (f"{PLANE}\n" * 513, 513, "at most 512 surfaces"),
+        ):
+            told = refusal(text)
+            self.assertIsNotNone(told, text)
+            self.assertEqual(told[0], line, text)
+            self.assertIn(reason, told[1])
+        self.assertIsNone(refusal(f"{RAY}\n" + f"{PLANE}\n" * 512))
+
+
+class Bytes(unittest.TestCase):
+    def test_document_01s_example(self):
+        located = read("ray x=0 y=0 z=-5 dx=0 dy=0 dz=1 index=1\nconic vertex=0 index=2 c=0 k=0 semi=10")
+        example = struct.pack("<HH7d", 58, 0, 0, 0, -5, 0, 0, 1, 1) + struct.pack("<HH5d", 42, 1, 0, 2, 0, 0, 10)
+        self.assertEqual(file(located.prescription), example)
+        self.assertEqual(file_places(located.prescription), [60, 104])
+
+    def test_samples(self):
+        for name in trying.NAMES:
+            data = (trying.SAMPLES / name).read_bytes()
+            self.assertEqual(file(read((trying.SAMPLES / f"{name}.txt").read_text()).prescription), data)
+            self.assert_goes_back(data)
+
+    def assert_goes_back(self, data):
+        for hexadecimal in (False, True):
+            self.assertEqual(file(read(written(parsed(data), hexadecimal)).prescription), data)
+
+    def test_any_recipe_goes_back(self):
+        draw = random.Random(2)
+        for _ in range(200):
+            data = b"" if draw.randrange(2) else bytes_of(0, [0.0] * 7)[:4] + draw.getrandbits(448).to_bytes(56, "little")
+            for _ in range(draw.randrange(5)):
+                kind, count = draw.choice([(1, 5), (2, 5), (2, 9), (2, 13), (3, 7), (4, 6)])
+                head = struct.pack("<HH", 2 + 8 * count, kind + 256 * draw.randrange(2))
+                data += head + draw.getrandbits(64 * count).to_bytes(8 * count, "little")
+            self.assert_goes_back(data)
+
+    def test_bytes_that_are_no_recipe(self):
+        plane, ray = record("conic", 0.0, 1.5, [0.0, 0.0, 10.0]), bytes_of(0, [0.0] * 7)
+        for data, place, reason in (
+            (plane[:3], 0, "cut short: 3 of the 4 bytes"),
+            (plane + plane[:43], 44, "cut short: 43 of the record's 44 bytes"),
+            (ray + plane + b"\0", 104, "cut short"),
+            (ray + ray, 60, "no surface of kind 0"),
+            (bytes_of(0, [0.0] * 6), 0, "a ray's record has 58 bytes after its length, and not 50"),
+            (bytes_of(5, [0.0] * 5), 0, "no surface of kind 5"),
+            (bytes_of(513, [0.0] * 5), 0, "no surface of kind 513"),
+            (bytes_of(256, [0.0] * 7), 0, "no surface of kind 256"),
+            (bytes_of(1, [0.0] * 6), 0, "length 50 is not one of kind 1, conic"),
+            (bytes_of(2, [0.0] * 14), 0, "length 114 is not one of kind 2, even"),
+            (b"\x2b\0\1\0" + b"\0" * 41, 0, "length 43"),
+            (plane * 513, 44 * 512, "more than 512 surfaces"),
+        ):
+            with self.assertRaises(Malformed) as wrong:
+                parsed(data)
+            self.assertEqual(wrong.exception.place, place)
+            self.assertIn(reason, wrong.exception.reason)
+        self.assertEqual(len(parsed(plane * 512).surfaces), 512)
+
+    def test_faults_in_the_order_of_the_checks(self):
+        bad = "\n".join((
+            "ray x=inf y=0 z=0 dx=0 dy=0 dz=1 index=0",
+            "conic vertex=0 index=0 c=0 k=0 semi=-1",
+            "toroid vertex=0 index=0 rx=1 cy=0 ky=0 semi=-1",
+            "even vertex=0 index=1 c=0 k=0 semi=-1 a1=inf",
+            "conic vertex=0 index=-0 c=0 k=0 semi=-0",
+        ))
+        self.assertEqual([fault[:2] for fault in faults(read(bad).prescription)], [(0, 3), (1, 2), (2, 2), (3, 4), (None, 2)])
+
+
+if __name__ == "__main__":
+    unittest.main()

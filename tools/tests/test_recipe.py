@@ -1,0 +1,61 @@
+import os
+import tempfile
+import unittest
+
+from trying import NAMES, SAMPLES, Refusing, ran
+
+
+class Recipe(Refusing, unittest.TestCase):
+    def test_forth_and_back(self):
+        for name in NAMES:
+            data = (SAMPLES / name).read_bytes()
+            self.assertEqual(ran("recipe", SAMPLES / f"{name}.txt").out, data)
+            for options in (["--back"], ["--back", "--hex"]):
+                self.assertEqual(ran("recipe", given=ran("recipe", *options, SAMPLES / name).out).out, data)
+
+    def test_without_a_ray(self):
+        text = b"mirror conic vertex=0 index=1 c=0 k=-0 semi=1\n"
+        data = ran("recipe", given=text).out
+        self.assertEqual((len(data), data[:4]), (44, b"\x2a\0\1\1"))
+        self.assertEqual(ran("recipe", "--back", "-", given=data).out, text)
+
+    def test_nothing_is_an_empty_recipe(self):
+        for options in ([], ["--back"]):
+            done = ran("recipe", *options)
+            self.assertEqual((done.status, done.out, done.err), (0, b"", ""))
+
+    def test_byte_order_mark_and_windows_lines(self):
+        text = (SAMPLES / "doublet.txt").read_bytes()
+        self.assertEqual(ran("recipe", given=b"\xef\xbb\xbf" + text.replace(b"\n", b"\r\n")).out, (SAMPLES / "doublet").read_bytes())
+
+    def test_warnings_name_the_refusal(self):
+        done = ran("recipe", given=b"\nconic vertex=0 index=1 c=0 k=0 semi=-1\n")
+        self.assertEqual((done.status, len(done.out)), (0, 44))
+        said = "the semi-diameter is negative: a trace is refused with 3 (negative semi-diameter of a conic)\n"
+        self.assertEqual(done.err, f"standard input:2: warning: {said}")
+        self.assertEqual(ran("recipe", "--back", given=done.out).err, f"standard input: byte 0: warning: {said}")
+
+    def test_refusals(self):
+        self.assert_refused(ran("recipe", given=b"\ncone"), "standard input:2: 'cone' is no kind")
+        self.assert_refused(ran("recipe", given=b"conic\n\xff"), "standard input:2: not text in UTF-8")
+        self.assert_refused(ran("recipe", SAMPLES / "doublet"), "doublet:1: a zero byte, which no text has")
+        self.assert_refused(ran("recipe", SAMPLES), "samples: Is a directory")
+        self.assert_refused(ran("recipe", "no such file"), "no such file: No such file or directory")
+        self.assert_refused(ran("recipe", "--back", SAMPLES / "doublet.txt"), "byte 0: ")
+        self.assert_refused(ran("recipe", "--back", given=(SAMPLES / "doublet").read_bytes()[:-1]), "byte 192: cut short: 43 of the")
+        self.assert_refused(ran("recipe", "--back", given=os.urandom(3)), "byte 0: cut short")
+
+    def test_usage(self):
+        self.assertEqual(ran("recipe", "--hex").status, 2)
+        self.assertIn(b"the text:", ran("recipe", "--help").out)
+
+    def test_written_through_a_file(self):
+        with tempfile.TemporaryDirectory() as folder:
+            path = os.path.join(folder, "bytes")
+            with open(path, "wb") as stream:
+                stream.write(ran("recipe", SAMPLES / "phone.txt").out)
+            self.assertEqual(ran("recipe", "--back", path).out, ran("recipe", "--back", SAMPLES / "phone").out)
+
+
+if __name__ == "__main__":
+    unittest.main()

@@ -2,6 +2,7 @@
 import os
 import sys
 
+import listing
 import prescription
 import records
 
@@ -86,3 +87,10 @@ def is_text(data):
 def prescription_of(data, name):
     """Of a text or of bytes, told apart by contents. Bytes that are no recipe are Malformed."""
     return located_text(data, name).prescription if is_text(data) else records.parsed(data)
+
+
+def listing_of(data, name):
+    try:
+        return listing.read(text_of(data, name))
+    except listing.BadListing as wrong:
+        raise Refused(f"{name}:{wrong.line}: {wrong.reason}") from None

@@ -1,0 +1,70 @@
+"""Places for labels in a picture, in pixels, y downwards: near what they name, and over nothing else."""
+
+CELL = 3
+LETTER, LINE = 7.0, 13.0
+
+
+def width_of(text):
+    return LETTER * len(text) + 2
+
+
+def steps_along(start, end, step=CELL):
+    """Points of a line, as close as the cells are."""
+    (x, y), (u, v) = start, end
+    count = max(1, round(max(abs(u - x), abs(v - y)) / step))
+    return [(x + (u - x) * i / count, y + (v - y) * i / count) for i in range(count + 1)]
+
+
+class Labels:
+    """What is taken, by cells. `left` and `right` bound the picture."""
+
+    def __init__(self, left, right):
+        self.left, self.right = left, right
+        self.taken = set()
+
+    def take_line(self, points):
+        for start, end in zip(points, points[1:]):
+            self.taken.update(map(cell, steps_along(start, end)))
+
+    def place(self, text, anchor, offsets):
+        """The middle of the label's foot: the first of the offsets from the anchor where it is free, or else the first."""
+        feet = [(anchor[0] + dx, anchor[1] + dy) for dx, dy in offsets]
+        foot = next((foot for foot in feet if self.is_free(text, foot, anchor)), feet[0])
+        self.taken |= box(text, foot) | leader(foot, anchor)
+        return foot
+
+    def is_free(self, text, foot, anchor):
+        half = width_of(text) / 2
+        if foot[0] - half < self.left or foot[0] + half > self.right:
+            return False
+        return not (box(text, foot) & self.taken)
+
+
+def cell(point):
+    return int(point[0] // CELL), int(point[1] // CELL)
+
+
+def box(text, foot):
+    """The cells that a label covers."""
+    half = width_of(text) / 2
+    (left, top), (right, bottom) = cell((foot[0] - half, foot[1] - LINE)), cell((foot[0] + half, foot[1]))
+    return {(i, j) for i in range(left, right + 1) for j in range(top, bottom + 1)}
+
+
+def leader(foot, anchor):
+    return set(map(cell, steps_along(foot, anchor)))
+
+
+def nearest_first(offsets):
+    return sorted(offsets, key=lambda offset: (abs(offset[1]) + 1.5 * abs(offset[0]), offset))
+
+
+# above, and if need be aside
+ABOVE = nearest_first([(dx, -dy) for dx in range(-72, 73, 6) for dy in range(8, 130, 3)])
+
+
+def around(text):
+    """Beside a mark, to its right or left, or above or below it."""
+    half = width_of(text) / 2
+    sides = [(side * (half + gap), dy) for side in (1, -1) for gap in (9, 18, 36, 60) for dy in (-8, 4, 20, -22, 36, -38, 54, -56)]
+    return nearest_first([*sides, *((0, dy) for dy in (-14, 26, -30, 42, 60, -50))])

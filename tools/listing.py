@@ -1,0 +1,215 @@
+"""What `tracelist` prints, read and held to document 01."""
+import math
+import re
+from typing import List, NamedTuple, Optional, Tuple
+
+from numerals import numeral, of_pattern, pattern
+from records import SHAPES, Malformed, faults, file_places
+from table import DONE, ENDS, HIT, MALFORMED, NOT_ENDED, START_REFUSALS, VIGNETTED, told
+
+COUNT = re.compile(r"\d{1,20}", re.ASCII)
+SLOTS = 11
+
+
+class Record(NamedTuple):
+    """Of a surface that was hit or refused. A refused one has no t, point, normal or direction, and only 7 has r and limit."""
+
+    number: int
+    status: int
+    steps: int
+    line: int
+    t: Optional[float] = None
+    point: Optional[Tuple[float, ...]] = None
+    normal: Optional[Tuple[float, ...]] = None
+    direction: Optional[Tuple[float, ...]] = None
+    front: Optional[bool] = None
+    r: Optional[float] = None
+    limit: Optional[float] = None
+
+    def is_hit(self):
+        return self.status == HIT
+
+
+class Listing(NamedTuple):
+    """Records and how they end: outcome, steps and path. Or, without records, why and at which byte the start was refused."""
+
+    records: List[Record]
+    outcome: int
+    steps: int = 0
+    path: float = 0.0
+    place: Optional[int] = None
+
+    def is_start_refused(self):
+        return self.place is not None
+
+    def hits(self):
+        return [record for record in self.records if record.is_hit()]
+
+    def refused(self):
+        """The record that ended the trace, if one did."""
+        return self.records[-1] if self.records and not self.records[-1].is_hit() else None
+
+
+class BadListing(Exception):
+    def __init__(self, line, reason):
+        super().__init__(f"{line}: {reason}")
+        self.line, self.reason = line, reason
+
+
+def read(text):
+    """A BadListing says which line is wrong, and why."""
+    lines = text.split("\n")
+    if lines[-1] == "":
+        lines.pop()
+    records = []
+    for at, written in enumerate(lines, 1):
+        try:
+            ended = read_line(written.split(), records, at)
+        except ValueError as wrong:
+            raise BadListing(at, str(wrong)) from None
+        if ended is not None:
+            if at < len(lines):
+                raise BadListing(at + 1, f"the listing has ended with {written.split()[0]!r} before this line")
+            return ended
+    raise BadListing(len(lines) + 1, "the listing breaks off: its last line has to begin with 'end' or 'refused'")
+
+
+def read_line(words, records, at):
+    """Adds a record, or gives the listing that has ended."""
+    if not words:
+        raise ValueError("an empty line")
+    if words[0] == "refused":
+        return read_refused(words, records)
+    if words[0] == "end":
+        return read_end(words, records)
+    records.append(read_record(words, records, at))
+    return None
+
+
+def of_length(words, length, form):
+    if len(words) != length:
+        raise ValueError(f"{len(words)} words, and not the {length} of {form}")
+
+
+def count(word):
+    if not COUNT.fullmatch(word):
+        raise ValueError(f"{word!r} is no count")
+    return int(word)
+
+
+def read_refused(words, records):
+    of_length(words, 3, "refused, number and place")
+    number, place = map(count, words[1:])
+    if records:
+        raise ValueError("a start that was refused has no records")
+    if number not in START_REFUSALS:
+        raise ValueError(f"no start is refused with {number}")
+    return Listing([], number, place=place)
+
+
+def read_record(words, records, at):
+    of_length(words, 3 + SLOTS, "number, status, steps and 11 bit patterns")
+    number, status, steps = map(count, words[:3])
+    slots = [of_pattern(word) for word in words[3:]]
+    if number != len(records):
+        raise ValueError(f"surface {number} stands where surface {len(records)} is due")
+    if records and not records[-1].is_hit():
+        raise ValueError(f"surface {records[-1].number} was refused, and the trace had ended there")
+    if status != HIT and status not in ENDS:
+        raise ValueError(f"no surface ends with {status}")
+    if steps == 0:
+        raise ValueError("a surface takes at least one step")
+    return hit(number, steps, at, slots) if status == HIT else refusal(number, status, steps, at, slots)
+
+
+def hit(number, steps, at, slots):
+    if not all(map(math.isfinite, slots)):
+        raise ValueError("a hit has a number that is not finite")
+    if slots[10] not in (0.0, 1.0):
+        raise ValueError(f"the front face is {numeral(slots[10])}, and not 1 or 0")
+    point, normal, direction = (tuple(slots[i : i + 3]) for i in (1, 4, 7))
+    return Record(number, HIT, steps, at, slots[0], point, normal, direction, slots[10] == 1.0)
+
+
+def refusal(number, status, steps, at, slots):
+    told_slots = 2 if status == VIGNETTED else 0
+    if any(pattern(x) != pattern(0.0) for x in slots[told_slots:]):
+        raise ValueError(f"surface {number} is refused with {status}, and yet a slot that it leaves blank is not 0")
+    if status != VIGNETTED:
+        return Record(number, status, steps, at)
+    r, limit = slots[:2]
+    if not r > limit:
+        raise ValueError(f"r {numeral(r)} is not beyond the limit {numeral(limit)}")
+    return Record(number, status, steps, at, r=r, limit=limit)
+
+
+def read_end(words, records):
+    of_length(words, 4, "end, outcome, steps and path")
+    outcome, steps = map(count, words[1:3])
+    listing = Listing(records, outcome, steps, of_pattern(words[3]))
+    refused = listing.refused()
+    if refused and outcome != refused.status:
+        raise ValueError(f"the outcome is {outcome}, and surface {refused.number} was refused with {refused.status}")
+    if not refused and outcome not in (NOT_ENDED, DONE):
+        raise ValueError(f"the outcome is {outcome}, and no surface was refused")
+    made = sum(record.steps for record in records)
+    # steps on a surface that is not finished are in no record
+    if steps < made or (steps > made and outcome != NOT_ENDED):
+        raise ValueError(f"the end tells {steps} steps, and the records add up to {made}")
+    path = 0.0
+    for record in listing.hits():
+        path += record.t
+    if pattern(listing.path) != pattern(path):
+        raise ValueError(f"the path is {numeral(listing.path)}, and the records add up to {numeral(path)}")
+    return listing
+
+
+def hold(listing, prescription):
+    """Refuses a listing that cannot be the prescription's."""
+    if listing.is_start_refused():
+        hold_start(listing, prescription)
+        return
+    surfaces, last = prescription.surfaces, len(listing.records)
+    if prescription.ray is None:
+        raise BadListing(1, "a trace, and the recipe has no ray")
+    found = faults(prescription)
+    if found:
+        raise BadListing(1, f"a trace, and the recipe is refused with {told(found[0].number)}")
+    for record in listing.records:
+        if record.number >= len(surfaces):
+            raise BadListing(record.line, f"surface {record.number}, and the recipe has {len(surfaces)}")
+        hold_record(record, surfaces[record.number])
+    if listing.outcome == DONE and last < len(surfaces):
+        raise BadListing(last + 1, f"done after {last} of the recipe's {len(surfaces)} surfaces")
+
+
+def hold_record(record, surface):
+    most, semi = SHAPES[surface.kind].steps, surface.named()["semi"]
+    if record.steps > most:
+        raise BadListing(record.line, f"{record.steps} steps, and surface {record.number}, a {surface.kind}, takes at most {most}")
+    if record.status == VIGNETTED and record.limit != semi:
+        raise BadListing(record.line, f"limit {numeral(record.limit)}, and surface {record.number} has the semi-diameter {numeral(semi)}")
+
+
+def hold_start(listing, prescription):
+    number, place = start_refusal(prescription)
+    if (listing.outcome, listing.place) != (number, place):
+        of_recipe = "is not refused" if number is None else f"is refused with {told(number)} at byte {place}"
+        raise BadListing(1, f"refused with {told(listing.outcome)} at byte {listing.place}, and the recipe {of_recipe}")
+
+
+def start_refusal(prescription):
+    """What `tracelist` answers instead of a trace: number and place."""
+    if prescription.ray is None:
+        return MALFORMED, 0
+    found = faults(prescription)
+    if not found:
+        return None, None
+    first = found[0]
+    return first.number, 0 if first.surface is None else file_places(prescription)[first.surface]
+
+
+def hold_malformed(listing, wrong: Malformed):
+    """The same for bytes that are no recipe."""
+    if (listing.outcome, listing.place) != (MALFORMED, wrong.place):
+        raise BadListing(1, f"not of these bytes, which are refused with {told(MALFORMED)} at byte {wrong.place}")

@@ -1,18 +1,14 @@
 """Places for labels in a picture, in pixels, y downwards: near what they name, and over nothing else."""
+import math
+
+from svg import steps_along
 
 CELL = 3
-LETTER, LINE = 7.0, 13.0
+LETTER, LINE, RIM = 7.0, 13.0, 4.0
 
 
 def width_of(text):
     return LETTER * len(text) + 2
-
-
-def steps_along(start, end, step=CELL):
-    """Points of a line, as close as the cells are."""
-    (x, y), (u, v) = start, end
-    count = max(1, round(max(abs(u - x), abs(v - y)) / step))
-    return [(x + (u - x) * i / count, y + (v - y) * i / count) for i in range(count + 1)]
 
 
 class Labels:
@@ -20,24 +16,33 @@ class Labels:
 
     def __init__(self, left, right):
         self.left, self.right = left, right
-        self.taken = set()
+        self.lines, self.boxes = set(), set()
 
     def take_line(self, points):
         for start, end in zip(points, points[1:]):
-            self.taken.update(map(cell, steps_along(start, end)))
+            self.lines.update(map(cell, steps_along(start, end, CELL)))
+
+    def take_box(self, middle, arm):
+        """A mark's, so far to each side."""
+        x, y = middle
+        for dy in range(-arm, arm + 1, CELL):
+            self.take_line([(x - arm, y + dy), (x + arm, y + dy)])
 
     def place(self, text, anchor, offsets):
-        """The middle of the label's foot: the first of the offsets from the anchor where it is free, or else the first."""
+        """The middle of the label's foot: the first of the offsets from the anchor where it is free, or else the first. The line that
+        leads from the label to the anchor may cross other lines, but no label."""
         feet = [(anchor[0] + dx, anchor[1] + dy) for dx, dy in offsets]
         foot = next((foot for foot in feet if self.is_free(text, foot, anchor)), feet[0])
-        self.taken |= box(text, foot) | leader(foot, anchor)
+        self.boxes |= box(text, foot)
+        self.lines |= leader(foot, anchor)
         return foot
 
     def is_free(self, text, foot, anchor):
         half = width_of(text) / 2
         if foot[0] - half < self.left or foot[0] + half > self.right:
             return False
-        return not (box(text, foot) & self.taken)
+        own = box(text, foot)
+        return not (own & self.lines or own & self.boxes or leader(foot, anchor) & self.boxes)
 
 
 def cell(point):
@@ -45,18 +50,18 @@ def cell(point):
 
 
 def box(text, foot):
-    """The cells that a label covers."""
+    """The cells that a label covers, and a little around it."""
     half = width_of(text) / 2
-    (left, top), (right, bottom) = cell((foot[0] - half, foot[1] - LINE)), cell((foot[0] + half, foot[1]))
+    (left, top), (right, bottom) = cell((foot[0] - half, foot[1] - LINE)), cell((foot[0] + half, foot[1] + RIM))
     return {(i, j) for i in range(left, right + 1) for j in range(top, bottom + 1)}
 
 
 def leader(foot, anchor):
-    return set(map(cell, steps_along(foot, anchor)))
+    return set(map(cell, steps_along(foot, anchor, CELL)))
 
 
 def nearest_first(offsets):
-    return sorted(offsets, key=lambda offset: (abs(offset[1]) + 1.5 * abs(offset[0]), offset))
+    return sorted(offsets, key=lambda offset: (math.hypot(*offset), offset))
 
 
 # above, and if need be aside

@@ -2,6 +2,7 @@
 import math
 
 FLAT = 1e-15
+PIECES = 48
 
 
 def sag(surface, x, y):
@@ -39,34 +40,52 @@ def of_toroid(own, _, x, y):
 SAGS = {"conic": of_revolution, "even": of_revolution, "biconic": of_biconic, "toroid": of_toroid}
 
 
-def profile(surface, across, pieces=48):
-    """Points of a section, as far as the surface goes: z, and x or y as `across` is 0 or 1."""
-    semi = surface.named()["semi"]
-    reach = min(edge(surface, across, semi), edge(surface, across, -semi))
-    heights = [reach * i / pieces for i in range(-pieces, pieces + 1)]
-    points = ((height, section(surface, across, height)) for height in heights)
-    return [(surface.vertex + z, height) for height, z in points if z is not None]
-
-
 def section(surface, across, height):
+    """The sag in the section across which x or y runs, as `across` is 0 or 1. It is the same on both sides of the axis."""
     return sag(surface, *((height, 0.0) if across == 0 else (0.0, height)))
 
 
-def edge(surface, across, semi):
+def reach(surface, across):
     """How far from the axis the section goes: to the semi-diameter, or to where the sag ends."""
-    inside, outside = 0.0, semi
-    if section(surface, across, semi) is not None:
-        return abs(semi)
+    inside, outside = 0.0, surface.named()["semi"]
+    if section(surface, across, outside) is not None:
+        return outside
     for _ in range(60):
         middle = (inside + outside) / 2
         if section(surface, across, middle) is None:
             outside = middle
         else:
             inside = middle
-    return abs(inside)
+    return inside
 
 
-def way_to(surface, origin, direction, reach, pieces=2000):
+def profile(surface, across, height=None):
+    """Points of a section up to a height, or as far as it goes: z, and what runs across."""
+    height = reach(surface, across) if height is None else height
+    heights = [height * i / PIECES for i in range(-PIECES, PIECES + 1)]
+    points = ((at, section(surface, across, at)) for at in heights)
+    return [(surface.vertex + z, at) for at, z in points if z is not None]
+
+
+def body(front, back, across):
+    """The outline between two surfaces. Where they cross it ends, since farther out there is nothing between them."""
+    height = crossing(front, back, across)
+    return [*profile(front, across, height), *reversed(profile(back, across, height))]
+
+
+def crossing(front, back, across):
+    """How far from the axis two surfaces cross; None if they do not."""
+    shared = min(reach(front, across), reach(back, across))
+
+    def thickness(height):
+        depths = section(front, across, height), section(back, across, height)
+        return 0.0 if None in depths else back.vertex + depths[1] - front.vertex - depths[0]
+
+    heights = [shared * i / (4 * PIECES) for i in range(4 * PIECES + 1)]
+    return next((height for height in heights if thickness(height) * thickness(0.0) < 0), None)
+
+
+def way_to(surface, origin, direction, farthest, pieces=2000):
     """How far a beam goes, in lengths of its direction, until it comes to the surface as it is drawn; None if not within reach."""
 
     def height(t):
@@ -75,7 +94,7 @@ def way_to(surface, origin, direction, reach, pieces=2000):
         return None if depth is None else z - surface.vertex - depth
 
     # a beam begins on the surface before, which may be this one's neighbour at its edge
-    times = [reach * i / pieces for i in range(1, pieces + 1)]
+    times = [farthest * i / pieces for i in range(1, pieces + 1)]
     before = height(times[0])
     for t, after in zip(times[1:], map(height, times[1:])):
         if before is not None and after is not None and (before < 0) != (after < 0):

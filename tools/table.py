@@ -29,7 +29,7 @@ WHY = {
     2: "the beam went so far from the axis that the surface has no normal there",
     4: "the calculation came to a slope, a normal or a direction of no size",
     5: "the beam came to a place where the surface's equation has no slope",
-    6: "the beam does not meet the surface, or the search for the point did not come to its end",
+    6: "no point of the surface was found ahead of the beam",
     8: "the beam meets the surface too flatly to leave the denser medium",
     9: "a number of this surface's answer is beyond the largest number",
 }

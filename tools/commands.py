@@ -1,4 +1,5 @@
 """What the tools share: reading, writing, and ending with one line and status 2 where something is wrong."""
+import argparse
 import os
 import sys
 
@@ -11,6 +12,10 @@ STANDARD_INPUT = "standard input"
 
 class Refused(Exception):
     """One line for standard error."""
+
+
+def command_line(name, description, notes):
+    return argparse.ArgumentParser(prog=name, description=description, epilog=notes, formatter_class=argparse.RawDescriptionHelpFormatter)
 
 
 def run(main):

@@ -3,7 +3,7 @@ import math
 
 from labels import ABOVE, Labels, around
 from records import file_places, surface_fault
-from sags import body, profile, way_to
+from sags import crossing, profile, way_to
 from svg import arrowhead, circle, cross, document, hatching, path, stroke, text
 from table import NOT_ENDED, VIGNETTED, told
 
@@ -13,6 +13,8 @@ MOST_HEIGHT = 430
 LEAST_HEIGHT = 110
 MOST_NUMBERS = 24
 LEAST_SPACING = 6
+# of what is drawn, in mm
+SMALLEST, LARGEST = 1e-12, 1e12
 
 INK = "#1f2937"
 PALE = "#b6bfcc"
@@ -61,7 +63,7 @@ class Beam:
         return STOPPED if surface == self.refused else UNREACHED
 
     def end_of_way(self, surfaces, size):
-        """Where the way is drawn to that was not measured: to the refused surface as it is drawn, or to its vertex plane, or some way on."""
+        """Where the way that was not measured is drawn to: the refused surface as it is drawn, or its vertex plane, or some way on."""
         length = math.hypot(*self.direction) if self.direction else 0.0
         if not self.points or not 0 < length < math.inf:
             return None
@@ -155,11 +157,18 @@ class Picture:
         self.profiles = {across: [profile_of(one, across) for one in self.surfaces] for across, _ in SECTIONS}
         self.window = Window(self.profiles, self.beam.points)
         self.way_end = self.beam.end_of_way(self.surfaces, self.window.size()) if self.is_under_way() else None
-        self.window = Window(self.profiles, [*self.beam.points, *([self.way_end] if self.way_end else [])])
+        self.window = Window(self.profiles, [*self.beam.points, *self.unmeasured()])
         self.parts = []
 
+    def unmeasured(self):
+        """What else is to be seen: where the beam was going, and the vertex of a surface that has no shape and was refused."""
+        if self.way_end:
+            yield self.way_end
+        if self.beam.refused is not None and math.isfinite(self.surfaces[self.beam.refused].vertex):
+            yield 0.0, 0.0, self.surfaces[self.beam.refused].vertex
+
     def is_drawable(self):
-        return any(any(section) for section in self.profiles.values()) and math.isfinite(self.window.size())
+        return any(any(section) for section in self.profiles.values()) and SMALLEST < self.window.size() < LARGEST
 
     def is_under_way(self):
         """Whether the beam was going somewhere from its last point, as far as is known."""
@@ -232,8 +241,15 @@ class Picture:
 
     def draw_glass(self, view):
         for i, index in self.bodies():
-            outline = view.points(body(self.surfaces[i], self.surfaces[i + 1], view.across))
-            self.parts.append(path(outline, f'fill="{glass(index)}" stroke="{PALE}" stroke-width="{0.6 * self.fineness():.2f}"', closed=True))
+            front, back = map(view.points, self.body(i, view.across))
+            style = f'fill="{glass(index)}" stroke="{PALE}" stroke-width="{0.6 * self.fineness():.2f}"'
+            self.parts.append(path([*front, *reversed(back)], style, closed=True))
+
+    def body(self, i, across):
+        """The profiles of a surface and the next, as far as there is glass between them."""
+        both = self.surfaces[i : i + 2]
+        height = crossing(*both, across)
+        return self.profiles[across][i : i + 2] if height is None else [profile(one, across, height) for one in both]
 
     def bodies(self):
         """The surfaces behind which there is glass up to the next, and its index."""
@@ -304,7 +320,7 @@ class Picture:
         if beam.refused is None:
             return view.seen(beam.points)[0] if beam.points else None
         vertex = self.surfaces[beam.refused].vertex
-        return view.at(vertex, 0.0) if self.window.low_z <= vertex <= self.window.high_z else None
+        return view.at(vertex, 0.0) if math.isfinite(vertex) else None
 
     def draw_scale(self, y):
         left, (scale, stretch) = left_of(self.window), self.window.scales()

@@ -2,7 +2,7 @@
 import math
 
 FLAT = 1e-15
-PIECES = 48
+PIECES = 40
 
 
 def sag(surface, x, y):
@@ -47,16 +47,10 @@ def section(surface, across, height):
 
 def reach(surface, across):
     """How far from the axis the section goes: to the semi-diameter, or to where the sag ends."""
-    inside, outside = 0.0, surface.named()["semi"]
-    if section(surface, across, outside) is not None:
-        return outside
-    for _ in range(60):
-        middle = (inside + outside) / 2
-        if section(surface, across, middle) is None:
-            outside = middle
-        else:
-            inside = middle
-    return inside
+    semi = surface.named()["semi"]
+    if section(surface, across, semi) is not None:
+        return semi
+    return halved(0.0, semi, lambda height: section(surface, across, height) is not None)
 
 
 def profile(surface, across, height=None):
@@ -67,22 +61,31 @@ def profile(surface, across, height=None):
     return [(surface.vertex + z, at) for at, z in points if z is not None]
 
 
-def body(front, back, across):
-    """The outline between two surfaces. Where they cross it ends, since farther out there is nothing between them."""
-    height = crossing(front, back, across)
-    return [*profile(front, across, height), *reversed(profile(back, across, height))]
-
-
 def crossing(front, back, across):
-    """How far from the axis two surfaces cross; None if they do not."""
+    """How far from the axis two surfaces cross, with nothing between them farther out; None if they do not."""
     shared = min(reach(front, across), reach(back, across))
 
     def thickness(height):
         depths = section(front, across, height), section(back, across, height)
         return 0.0 if None in depths else back.vertex + depths[1] - front.vertex - depths[0]
 
-    heights = [shared * i / (4 * PIECES) for i in range(4 * PIECES + 1)]
-    return next((height for height in heights if thickness(height) * thickness(0.0) < 0), None)
+    on_axis = thickness(0.0)
+    heights = [shared * i / PIECES for i in range(PIECES + 1)]
+    outside = next((height for height in heights if thickness(height) * on_axis < 0), None)
+    if outside is None:
+        return None
+    return halved(outside - shared / PIECES, outside, lambda height: thickness(height) * on_axis >= 0)
+
+
+def halved(inside, outside, is_inside):
+    """The last number from inside on that is so, near enough."""
+    for _ in range(40):
+        middle = (inside + outside) / 2
+        if is_inside(middle):
+            inside = middle
+        else:
+            outside = middle
+    return inside
 
 
 def way_to(surface, origin, direction, farthest, pieces=2000):

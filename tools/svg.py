@@ -73,6 +73,7 @@ def hatching(points, way, colour):
 
 def document(parts, width, height, title, description):
     size = f'width="{width}" height="{round(height)}"'
-    head = f'<svg xmlns="http://www.w3.org/2000/svg" {size} viewBox="0 0 {width} {round(height)}" font-family="Helvetica, Arial, sans-serif">'
+    box = f'viewBox="0 0 {width} {round(height)}"'
+    head = f'<svg xmlns="http://www.w3.org/2000/svg" {size} {box} font-family="Helvetica, Arial, sans-serif">'
     told = f"<title>{printable(title)}</title>\n<desc>{printable(description)}</desc>"
     return "\n".join([head, told, f'<rect {size} fill="white"/>', *parts, "</svg>\n"])

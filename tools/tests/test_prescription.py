@@ -49,7 +49,8 @@ class Text(unittest.TestCase):
     def test_kinds(self):
         self.assertEqual(surface("conic vertex=1 index=2 c=3 k=4 semi=5"), Surface("conic", 1, 2, [3, 4, 5]))
         self.assertEqual(surface("even semi=5 k=4 c=3 index=2 vertex=1 a2=7 a1=6"), Surface("even", 1, 2, [3, 4, 5, 6, 7]))
-        self.assertEqual(surface("mirror biconic vertex=1 index=2 cx=3 kx=4 cy=5 ky=6 semi=7"), Surface("biconic", 1, 2, [3, 4, 5, 6, 7], True))
+        mirror = surface("mirror biconic vertex=1 index=2 cx=3 kx=4 cy=5 ky=6 semi=7")
+        self.assertEqual(mirror, Surface("biconic", 1, 2, [3, 4, 5, 6, 7], True))
         self.assertEqual(surface("toroid vertex=1 index=2 rx=3 cy=4 ky=5 semi=6"), Surface("toroid", 1, 2, [3, 4, 5, 6]))
 
     def test_a_radius_is_rounded_once(self):

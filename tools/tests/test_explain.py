@@ -1,0 +1,112 @@
+import os
+import tempfile
+import unittest
+
+from trying import LISTINGS, NAMES, SAMPLES, Refusing, ran
+from numerals import pattern
+from prescription import read
+from records import file
+
+ZERO = pattern(0.0)
+VIGNETTED = " ".join(["0 7 1", pattern(12.0), pattern(10.0), *[ZERO] * 9]) + f"\nend 7 1 {ZERO}\n"
+RAY = "ray x=12 y=0 z=-5 dx=0 dy=0 dz=1 index=1\n"
+PLANE = "conic vertex=0 index=2 c=0 k=0 semi=10\n"
+
+
+def told(listing, *options):
+    done = ran("explain", *options, given=listing.encode())
+    return done.out.decode() if done.status == 0 else done.err
+
+
+class Explain(Refusing, unittest.TestCase):
+    def setUp(self):
+        folder = tempfile.TemporaryDirectory()
+        self.addCleanup(folder.cleanup)
+        self.folder = folder.name
+
+    def recipe(self, data):
+        """As text or bytes."""
+        path = os.path.join(self.folder, "recipe")
+        with open(path, "wb") as stream:
+            stream.write(data.encode() if isinstance(data, str) else data)
+        return path
+
+    def test_doublet(self):
+        text = ran("explain", LISTINGS / "doublet", "--recipe", SAMPLES / "doublet").out.decode()
+        first = "Surface 0 (conic): hit at x 6, y 3, z 0.35959609 mm, 20.3595961 mm after the start, on its front face; 1 step.\n"
+        self.assertTrue(text.startswith(first))
+        self.assertIn("      1   1 hit      1  3.16462186      5.89651048       2.94825524  3.52210204  23.5242179\n", text)
+        self.assertTrue(text.endswith("\nDone: all 4 surfaces are hit; 4 steps, path 123.822188 mm.\n"))
+
+    def test_samples_without_their_recipes(self):
+        for name in NAMES:
+            listing = (LISTINGS / name).read_text()
+            text = told(listing)
+            self.assertEqual(text.count("hit at"), listing.count("\n") - 1)
+            self.assertIn("Done: all ", text)
+
+    def test_exact_numbers(self):
+        self.assertIn("path 123.82218832868621 mm", told((LISTINGS / "doublet").read_text(), "--exact"))
+
+    def test_lost(self):
+        text = ran("explain", LISTINGS / "lost", "--recipe", SAMPLES / "lost.txt").out.decode()
+        why = "no point of the surface was found ahead of the beam"
+        self.assertIn(f"Surface 2 (conic): refused with 6, missed, after 1 step: {why}.\n", text)
+        self.assertIn("      2  6 missed      1           -           -           -           -           -\n", text)
+        self.assertIn("Ended by the refusal at surface 2, with 6 (missed); 3 steps, path 23.5242179 mm up to the last hit.\n", text)
+        self.assertTrue(text.endswith("The record of surface 3 is blank: nothing of it was measured.\n"))
+
+    def test_vignetted(self):
+        why = "refused with 7, vignetted, after 1 step: the beam meets it 12 mm from the axis, and its semi-diameter is 10 mm.\n"
+        self.assertIn(f"Surface 0: {why}", told(VIGNETTED))
+        self.assertIn("The records after it are blank: nothing of them was measured.\n", told(VIGNETTED))
+        blank = "The records of surfaces 1 to 3 are blank: nothing of them was measured."
+        for surfaces, said in ((1, "No surface comes after it."), (4, blank)):
+            self.assertIn(said, told(VIGNETTED, "--recipe", self.recipe(RAY + PLANE * surfaces)))
+        far = VIGNETTED.replace(pattern(12.0), "7FF0000000000000")
+        self.assertIn("farther from the axis than the largest number", told(far))
+
+    def test_not_ended(self):
+        text = told(f"end 0 3 {ZERO}\n")
+        self.assertEqual(text, "Not ended: 0 surfaces hit so far; 3 steps, path 0 mm.\n"
+                               "From surface 0 on the records are blank: nothing of them is measured yet.\n")
+
+    def test_no_surfaces(self):
+        self.assertEqual(told(f"end 1 0 {ZERO}\n"), "Done: the recipe has no surface; 0 steps, path 0 mm.\n")
+
+    def test_a_direction_of_another_length(self):
+        text = told(VIGNETTED, "--recipe", self.recipe(RAY.replace("dz=1", "dz=2") + PLANE))
+        self.assertIn("The ray's direction has the length 2: in t of surface 0, and in the path, that counts as 1 mm.\n", text)
+
+    def test_refused_starts(self):
+        nothing = "Nothing was traced: every record is blank.\n"
+        self.assertEqual(told("refused 3 60\n"), "Refused at the start with 3 (negative semi-diameter of a conic), "
+                                                 f"at the record that begins at byte 60.\n{nothing}")
+        self.assertIn("for the ray or its starting index", told("refused 4 0\n"))
+        for listing, recipe, said in (
+            ("refused 3 60\n", RAY + PLANE.replace("semi=", "semi=-"), "Surface 0 (conic): the semi-diameter is negative.\n"),
+            ("refused 4 0\n", RAY.replace("index=1", "index=-1"), "The ray: the index is not above 0.\n"),
+            ("refused 10 0\n", PLANE, "The recipe has no ray.\n"),
+            ("refused 10 60\n", file(read(RAY + PLANE).prescription)[:-1], "There: cut short: 43 of the record's 44 bytes.\n"),
+        ):
+            text = told(listing, "--recipe", self.recipe(recipe))
+            self.assertIn(said, text)
+            self.assertTrue(text.endswith(nothing))
+
+    def test_refusals(self):
+        self.assert_refused(ran("explain"), "standard input:1: the listing breaks off")
+        self.assert_refused(ran("explain", given=b"end 1 0\n"), "standard input:1: 3 words")
+        self.assert_refused(ran("explain", given=b"\xff\xfe\0"), "standard input:1: not text in UTF-8")
+        self.assert_refused(ran("explain", SAMPLES), "Is a directory")
+        other = ran("explain", LISTINGS / "doublet", "--recipe", SAMPLES / "toroid")
+        self.assert_refused(other, f"{LISTINGS / 'doublet'}:5: done after 4 of the recipe's 5 surfaces: this is no listing of")
+        self.assert_refused(ran("explain", "--recipe", self.recipe("cone"), given=b"refused 3 60\n"), "recipe:1: 'cone' is no kind")
+        self.assert_refused(ran("explain", "--recipe", self.recipe(b"\0"), given=VIGNETTED.encode()), "this is no listing of")
+        self.assertEqual(ran("explain", "--recipe", "-").status, 2)
+
+    def test_usage(self):
+        self.assertIn(b"--recipe FILE", ran("explain", "--help").out)
+
+
+if __name__ == "__main__":
+    unittest.main()

@@ -23,10 +23,16 @@ def run(main):
     try:
         main()
     except Refused as refused:
-        print(refused, file=sys.stderr)
+        say(refused)
         sys.exit(2)
     except KeyboardInterrupt:
         sys.exit(130)
+
+
+def say(line):
+    # a closed standard error is None, which print would take for standard output
+    if sys.stderr is not None:
+        print(line, file=sys.stderr)
 
 
 def name_of(path):
@@ -84,18 +90,34 @@ def located_text(data, name):
         raise Refused(f"{name}:{wrong.line}: {wrong.reason}") from None
 
 
+def parsed_bytes(data, name):
+    try:
+        return records.parsed(data)
+    except records.Malformed as wrong:
+        raise Refused(f"{name}: byte {wrong.place}: {wrong.reason}") from None
+
+
 def is_text(data):
     """Every record has a zero byte, in its length; a text has none."""
     return 0 not in data
 
 
 def prescription_of(data, name):
-    """Of a text or of bytes, told apart by contents. Bytes that are no recipe are Malformed."""
-    return located_text(data, name).prescription if is_text(data) else records.parsed(data)
+    """Of a text or of bytes, told apart by contents."""
+    return located_text(data, name).prescription if is_text(data) else parsed_bytes(data, name)
 
 
-def listing_of(data, name):
+def listing_of(path, traced=None, recipe=None):
+    """What `tracelist` printed, held to what was traced, if that is given with its name: a prescription, or how bytes are malformed."""
+    name = name_of(path)
+    data = contents(path)
     try:
-        return listing.read(text_of(data, name))
+        read = listing.read(text_of(data, name))
     except listing.BadListing as wrong:
         raise Refused(f"{name}:{wrong.line}: {wrong.reason}") from None
+    try:
+        if traced is not None:
+            listing.hold(read, traced)
+    except listing.BadListing as unlike:
+        raise Refused(f"{name}:{unlike.line}: {unlike.reason}: this is no listing of {recipe}") from None
+    return read

@@ -3,7 +3,7 @@ import math
 import re
 from typing import List, NamedTuple, Optional, Tuple
 
-from numerals import numeral, of_pattern, pattern
+from numerals import counted, numeral, of_pattern, pattern
 from records import SHAPES, Malformed, faults, file_places
 from table import DONE, ENDS, HIT, MALFORMED, NOT_ENDED, START_REFUSALS, VIGNETTED, told
 
@@ -88,7 +88,7 @@ def read_line(words, records, at):
 
 def of_length(words, length, form):
     if len(words) != length:
-        raise ValueError(f"{len(words)} words, and not the {length} of {form}")
+        raise ValueError(f"{counted(len(words), 'word')}, and not the {length} of {form}")
 
 
 def count(word):
@@ -164,17 +164,35 @@ def read_end(words, records):
     return listing
 
 
-def hold(listing, prescription):
-    """Refuses a listing that cannot be the prescription's."""
-    if listing.is_start_refused():
-        hold_start(listing, prescription)
-        return
-    surfaces, last = prescription.surfaces, len(listing.records)
-    if prescription.ray is None:
-        raise BadListing(1, "a trace, and the recipe has no ray")
-    found = faults(prescription)
-    if found:
-        raise BadListing(1, f"a trace, and the recipe is refused with {told(found[0].number)}")
+def hold(listing, traced):
+    """Refuses a listing that cannot be of what was traced: a prescription, or bytes that are malformed."""
+    due = start_refusal(traced)
+    given = (listing.outcome, listing.place) if listing.is_start_refused() else None
+    if given != due:
+        raise BadListing(1, f"the listing has {said_of(given)}, and the recipe {said_of(due)}")
+    if due is None:
+        hold_trace(listing, traced.surfaces)
+
+
+def said_of(start_refused):
+    return "a trace" if start_refused is None else f"a start refused with {told(start_refused[0])} at byte {start_refused[1]}"
+
+
+def start_refusal(traced):
+    """What `tracelist` answers instead of a trace: number and place; or None."""
+    if isinstance(traced, Malformed):
+        return MALFORMED, traced.place
+    if traced.ray is None:
+        return MALFORMED, 0
+    found = faults(traced)
+    if not found:
+        return None
+    first = found[0]
+    return first.number, 0 if first.surface is None else file_places(traced)[first.surface]
+
+
+def hold_trace(listing, surfaces):
+    last = len(listing.records)
     for record in listing.records:
         if record.number >= len(surfaces):
             raise BadListing(record.line, f"surface {record.number}, and the recipe has {len(surfaces)}")
@@ -189,27 +207,3 @@ def hold_record(record, surface):
         raise BadListing(record.line, f"{record.steps} steps, and surface {record.number}, a {surface.kind}, takes at most {most}")
     if record.status == VIGNETTED and record.limit != semi:
         raise BadListing(record.line, f"limit {numeral(record.limit)}, and surface {record.number} has the semi-diameter {numeral(semi)}")
-
-
-def hold_start(listing, prescription):
-    number, place = start_refusal(prescription)
-    if (listing.outcome, listing.place) != (number, place):
-        of_recipe = "is not refused" if number is None else f"is refused with {told(number)} at byte {place}"
-        raise BadListing(1, f"refused with {told(listing.outcome)} at byte {listing.place}, and the recipe {of_recipe}")
-
-
-def start_refusal(prescription):
-    """What `tracelist` answers instead of a trace: number and place."""
-    if prescription.ray is None:
-        return MALFORMED, 0
-    found = faults(prescription)
-    if not found:
-        return None, None
-    first = found[0]
-    return first.number, 0 if first.surface is None else file_places(prescription)[first.surface]
-
-
-def hold_malformed(listing, wrong: Malformed):
-    """The same for bytes that are no recipe."""
-    if (listing.outcome, listing.place) != (MALFORMED, wrong.place):
-        raise BadListing(1, f"not of these bytes, which are refused with {told(MALFORMED)} at byte {wrong.place}")

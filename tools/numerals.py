@@ -29,6 +29,10 @@ def nan_of(digits):
     return x
 
 
+def counted(n, what):
+    return f"{n} {what}" if n == 1 else f"{n} {what}s"
+
+
 def number(text):
     """The binary64 number nearest to what is written. A ValueError says why there is none."""
     if text in INFINITIES:

@@ -45,7 +45,7 @@ class Numbers(unittest.TestCase):
                 self.assertEqual(pattern(number(numeral(of_pattern(digits), hexadecimal))), digits)
 
 
-class Text(unittest.TestCase):
+class Text(trying.Refusing, unittest.TestCase):
     def test_kinds(self):
         self.assertEqual(surface("conic vertex=1 index=2 c=3 k=4 semi=5"), Surface("conic", 1, 2, [3, 4, 5]))
         self.assertEqual(surface("even semi=5 k=4 c=3 index=2 vertex=1 a2=7 a1=6"), Surface("even", 1, 2, [3, 4, 5, 6, 7]))
@@ -91,10 +91,7 @@ class Text(unittest.TestCase):
             (f"{RAY} semi=1", 1, "a ray has no 'semi'"),
             (f"{PLANE}\n" * 513, 513, "at most 512 surfaces"),
         ):
-            told = refusal(text)
-            self.assertIsNotNone(told, text)
-            self.assertEqual(told[0], line, text)
-            self.assertIn(reason, told[1])
+            self.assert_told(refusal(text), line, reason)
         self.assertIsNone(refusal(f"{RAY}\n" + f"{PLANE}\n" * 512))
 
 

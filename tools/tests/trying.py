@@ -50,9 +50,16 @@ def started(shell):
 
 
 class Refusing:
-    """For a TestCase: a tool refuses with status 2 and one line, and writes nothing."""
+    """For a TestCase."""
+
+    def assert_told(self, told, line, reason):
+        """A reader refuses with this line, and with a reason that says this."""
+        self.assertIsNotNone(told, reason)
+        self.assertEqual(told[0], line, told)
+        self.assertIn(reason, told[1])
 
     def assert_refused(self, done, said):
+        """A tool refuses with status 2 and one line, and writes nothing."""
         self.assertEqual((done.status, done.out), (2, b""), done.err)
         self.assertEqual(done.err.count("\n"), 1, done.err)
         self.assertIn(said, done.err)

@@ -201,9 +201,11 @@ class Picture:
         return f"refused at surface {beam.refused} with {told(beam.number)}{limits}; {so_far}"
 
     def draw_section(self, view):
-        """Answers where the section ends. Its drawing begins where the numbers over it leave off."""
-        numbers = self.numbers(view)
-        room = view.top - min([view.top, *(foot[1] - 14 for foot, _ in numbers.values())])
+        """Answers where the section ends. Its drawing begins where the labels over it leave off."""
+        labels = self.labels(view)
+        numbers, refusal = self.numbers(view, labels), self.refusal_label(view, labels)
+        feet = [*(foot for foot, _ in numbers.values()), *([refusal] if refusal else [])]
+        room = max([0.0, *(view.top - foot[1] + 14 for foot in feet)])
         view.top += room
         self.draw_glass(view)
         self.draw_axis(view)
@@ -211,17 +213,23 @@ class Picture:
         for i, ends in numbers.items():
             self.draw_number(i, *((x, y + room) for x, y in ends))
         self.draw_beam(view)
-        self.draw_refusal(view)
+        if refusal:
+            self.parts += cross(self.refusal_place(view), REFUSED)
+            self.parts.append(text(told(self.beam.number), (refusal[0], refusal[1] + room), REFUSED, anchor="middle", bold=True))
         return view.bottom()
 
-    def numbers(self, view):
+    def numbers(self, view, labels):
         """Where the surfaces' numbers stand, and what they lead to. Of many surfaces some have none."""
         tops = {i: view.at(*points[-1]) for i, points in enumerate(self.profiles[view.across]) if points}
         every = rounded_up(max(len(tops) / MOST_NUMBERS, 1))
-        labels = self.labels(view)
         # the tallest first: there is room over them
         numbered = sorted((i for i in tops if i % every == 0), key=lambda i: tops[i][1])
         return {i: (labels.place(str(i), tops[i], ABOVE), tops[i]) for i in numbered}
+
+    def refusal_label(self, view, labels):
+        mark = self.refusal_place(view)
+        words = None if mark is None else told(self.beam.number)
+        return words and labels.place(words, mark, around(words))
 
     def labels(self, view):
         """With all that is drawn in the section taken."""
@@ -303,13 +311,6 @@ class Picture:
             self.parts += [path([points[-1], end], stroke(BEAM, 1.8, DASHES)), *arrowhead(points[-1], end, BEAM)]
         if points:
             self.parts.append(circle(points[0], 3.5, START))
-
-    def draw_refusal(self, view):
-        place = self.refusal_place(view)
-        if place is not None:
-            words = told(self.beam.number)
-            foot = self.labels(view).place(words, place, around(words))
-            self.parts += [*cross(place, REFUSED), text(words, foot, REFUSED, anchor="middle", bold=True)]
 
     def refusal_place(self, view):
         beam = self.beam

@@ -66,11 +66,13 @@ class Draw(unittest.TestCase):
                 for x, y in points_of(element):
                     self.assertTrue(0 <= x <= width and 0 <= y <= height, (name, x, y))
 
-    def test_numbers_stand_apart(self):
-        for name in (*NAMES, "lost"):
-            numbers = [one for one in sample(name).iter(SVG + "text") if one.text.isdigit()]
-            boxes = [box(one.text, (float(one.get("x")), float(one.get("y")) - 4)) for one in numbers]
-            self.assertEqual(sum(map(len, boxes)), len(set().union(*boxes)), name)
+    def test_labels_stand_apart(self):
+        """Numbers and refusals, which are those that have their middles given."""
+        small = drawn(RAY + PLANE.replace("semi=10", "semi=11.9"), VIGNETTED.replace(pattern(10.0), pattern(11.9)))
+        for root in (*map(sample, (*NAMES, "lost")), small):
+            labels = [one for one in root.iter(SVG + "text") if one.get("text-anchor") == "middle"]
+            boxes = [box(one.text, (float(one.get("x")), float(one.get("y")) - 4)) for one in labels]
+            self.assertEqual(sum(map(len, boxes)), len(set().union(*boxes)), texts(root))
 
     def test_scale_is_the_same_both_ways(self):
         """The doublet's first surface is as tall as its semi-diameter says, by the bar."""

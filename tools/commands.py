@@ -73,9 +73,9 @@ def put(data):
 
 
 def text_of(data, name):
-    """Of UTF-8, with either kind of line end."""
+    """Of UTF-8, with any kind of line end."""
     try:
-        return data.decode("utf-8-sig").replace("\r\n", "\n")
+        return data.decode("utf-8-sig").replace("\r\n", "\n").replace("\r", "\n")
     except UnicodeDecodeError as wrong:
         raise Refused(f"{name}:{data[: wrong.start].count(10) + 1}: not text in UTF-8") from None
 

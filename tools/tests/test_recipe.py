@@ -22,11 +22,13 @@ class Recipe(Refusing, unittest.TestCase):
     def test_nothing_is_an_empty_recipe(self):
         for options in ([], ["--back"]):
             done = ran("recipe", *options)
-            self.assertEqual((done.status, done.out, done.err), (0, b"", ""))
+            self.assertEqual((done.status, done.out), (0, b""))
+            self.assertEqual(done.err, "standard input: warning: there is no surface: a trace is done at once\n")
 
-    def test_byte_order_mark_and_windows_lines(self):
+    def test_byte_order_mark_and_other_line_ends(self):
         text = (SAMPLES / "doublet.txt").read_bytes()
-        self.assertEqual(ran("recipe", given=b"\xef\xbb\xbf" + text.replace(b"\n", b"\r\n")).out, (SAMPLES / "doublet").read_bytes())
+        for end in (b"\r\n", b"\r"):
+            self.assertEqual(ran("recipe", given=b"\xef\xbb\xbf" + text.replace(b"\n", end)).out, (SAMPLES / "doublet").read_bytes())
 
     def test_warnings_name_the_refusal(self):
         done = ran("recipe", given=b"\nconic vertex=0 index=1 c=0 k=0 semi=-1\n")

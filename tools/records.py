@@ -97,19 +97,41 @@ def file_places(prescription):
 
 def parsed(data):
     """The prescription that bytes tell. A first record of kind 0 is the ray's."""
-    ray, at = None, 0
-    if data[2:4] == b"\0\0":
-        _, ray, at = record_at(data, 0)
-        if len(ray) != len(RAY_NAMES):
-            raise Malformed(0, f"a ray's record has {2 + 8 * len(RAY_NAMES)} bytes after its length, and not {2 + 8 * len(ray)}")
+    ray, at = ray_at_start(data)
     surfaces = []
     while at < len(data):
-        if len(surfaces) == MOST_SURFACES:
-            raise Malformed(at, f"more than {MOST_SURFACES} surfaces")
-        kind, numbers, end = record_at(data, at)
-        surfaces.append(surface_of(kind, numbers, at))
-        at = end
+        try:
+            surface, at = surface_at(data, at, len(surfaces))
+        except Malformed as wrong:
+            raise Malformed(wrong.place, f"surface {len(surfaces)}: {wrong.reason}") from None
+        surfaces.append(surface)
     return Prescription(ray, surfaces)
+
+
+def ray_at_start(data):
+    """The ray, if there is one, and where the surfaces begin."""
+    if data[2:4] != b"\0\0":
+        return None, 0
+    _, ray, end = record_at(data, 0)
+    if len(ray) != len(RAY_NAMES):
+        raise Malformed(0, f"a ray's record has {2 + 8 * len(RAY_NAMES)} bytes after its length, and not {2 + 8 * len(ray)}")
+    return ray, end
+
+
+def surface_at(data, at, before):
+    """A surface, and where the next begins, if so many stand before it."""
+    if before == MOST_SURFACES:
+        raise Malformed(at, f"a recipe has at most {MOST_SURFACES}")
+    number, numbers, end = record_at(data, at)
+    mirror, own = divmod(number, MIRROR)
+    kind = next((kind for kind, shape in SHAPES.items() if shape.kind == own), None)
+    if kind is None or mirror > 1:
+        raise Malformed(at, f"there is no kind {number}")
+    shape = SHAPES[kind]
+    least = 2 + len(shape.names)
+    if not least <= len(numbers) <= least + shape.coefficients:
+        raise Malformed(at, f"length {2 + 8 * len(numbers)} is not one of kind {number}, {kind}")
+    return Surface(kind, numbers[0], numbers[1], numbers[2:], mirror == 1), end
 
 
 def record_at(data, at):
@@ -123,18 +145,6 @@ def record_at(data, at):
     if len(data) < end:
         raise Malformed(at, f"cut short: {len(data) - at} of the record's {2 + length} bytes")
     return kind, list(struct.unpack_from(f"<{length // 8}d", data, at + 4)), end
-
-
-def surface_of(number, numbers, at):
-    mirror, own = divmod(number, MIRROR)
-    kind = next((kind for kind, shape in SHAPES.items() if shape.kind == own), None)
-    if kind is None or mirror > 1:
-        raise Malformed(at, f"there is no surface of kind {number}")
-    shape = SHAPES[kind]
-    least = 2 + len(shape.names)
-    if not least <= len(numbers) <= least + shape.coefficients:
-        raise Malformed(at, f"length {2 + 8 * len(numbers)} is not one of kind {number}, {kind}")
-    return Surface(kind, numbers[0], numbers[1], numbers[2:], mirror == 1)
 
 
 def surface_fault(surface):

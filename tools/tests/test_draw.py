@@ -150,7 +150,7 @@ class Tool(Refusing, unittest.TestCase):
         self.assert_refused(ran("draw", "-"), "standard input: nothing to draw")
         self.assert_refused(ran("draw", SAMPLES), "Is a directory")
         self.assert_refused(ran("draw", "-", given=b"cone"), "standard input:1: 'cone' is no kind")
-        self.assert_refused(ran("draw", "-", given=b"\x2a\0\7\0"), "standard input: byte 0: cut short")
+        self.assert_refused(ran("draw", "-", given=b"\x2a\0\7\0"), "standard input: byte 0: surface 0: cut short")
         self.assert_refused(ran("draw", "-", given=b"\xff\xff"), "standard input:1: not text in UTF-8")
         self.assert_refused(ran("draw", SAMPLES / "doublet", "-", given=b"end\n"), "standard input:1: 1 word,")
         self.assert_refused(ran("draw", SAMPLES / "toroid", LISTINGS / "doublet"), "this is no listing of")

@@ -87,7 +87,7 @@ class Explain(Refusing, unittest.TestCase):
             ("refused 3 60\n", RAY + PLANE.replace("semi=", "semi=-"), "Surface 0 (conic): the semi-diameter is negative.\n"),
             ("refused 4 0\n", RAY.replace("index=1", "index=-1"), "The ray: the index is not above 0.\n"),
             ("refused 10 0\n", PLANE, "The recipe has no ray.\n"),
-            ("refused 10 60\n", file(read(RAY + PLANE).prescription)[:-1], "There: cut short: 43 of the record's 44 bytes.\n"),
+            ("refused 10 60\n", file(read(RAY + PLANE).prescription)[:-1], "Surface 0: cut short: 43 of the record's 44 bytes.\n"),
         ):
             text = told(listing, "--recipe", self.recipe(recipe))
             self.assertIn(said, text)

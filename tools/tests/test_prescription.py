@@ -126,17 +126,17 @@ class Bytes(unittest.TestCase):
         plane, ray = record("conic", 0.0, 1.5, [0.0, 0.0, 10.0]), bytes_of(0, [0.0] * 7)
         for data, place, reason in (
             (plane[:3], 0, "cut short: 3 of the 4 bytes"),
-            (plane + plane[:43], 44, "cut short: 43 of the record's 44 bytes"),
+            (plane + plane[:43], 44, "surface 1: cut short: 43 of the record's 44 bytes"),
             (ray + plane + b"\0", 104, "cut short"),
-            (ray + ray, 60, "no surface of kind 0"),
+            (ray + ray, 60, "there is no kind 0"),
             (bytes_of(0, [0.0] * 6), 0, "a ray's record has 58 bytes after its length, and not 50"),
-            (bytes_of(5, [0.0] * 5), 0, "no surface of kind 5"),
-            (bytes_of(513, [0.0] * 5), 0, "no surface of kind 513"),
-            (bytes_of(256, [0.0] * 7), 0, "no surface of kind 256"),
+            (bytes_of(5, [0.0] * 5), 0, "there is no kind 5"),
+            (bytes_of(513, [0.0] * 5), 0, "there is no kind 513"),
+            (bytes_of(256, [0.0] * 7), 0, "there is no kind 256"),
             (bytes_of(1, [0.0] * 6), 0, "length 50 is not one of kind 1, conic"),
             (bytes_of(2, [0.0] * 14), 0, "length 114 is not one of kind 2, even"),
             (b"\x2b\0\1\0" + b"\0" * 41, 0, "length 43"),
-            (plane * 513, 44 * 512, "more than 512 surfaces"),
+            (plane * 513, 44 * 512, "surface 512: a recipe has at most 512"),
         ):
             with self.assertRaises(Malformed) as wrong:
                 parsed(data)

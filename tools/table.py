@@ -26,12 +26,12 @@ START_REFUSALS = (2, 3, 4, 10, 11)
 
 # why a surface ended the trace, for a reader who does not know the table; 7 is told with its own numbers
 WHY = {
-    2: "the beam went so far from the axis that the surface has no normal there",
-    4: "the calculation came to a slope, a normal or a direction of no size",
-    5: "the beam came to a place where the surface's equation has no slope",
+    2: "the beam meets it farther from the axis than the largest number, where it has no normal",
+    4: "a slope, a normal or a direction came out with no size, or not finite",
+    5: "the surface has no normal where the beam meets it",
     6: "no point of the surface was found ahead of the beam",
     8: "the beam meets the surface too flatly to leave the denser medium",
-    9: "a number of this surface's answer is beyond the largest number",
+    9: "a number of this surface's answer is infinite or undefined",
 }
 
 

@@ -6,11 +6,16 @@ from trying import LISTINGS, NAMES, SAMPLES, Refusing, ran
 from numerals import pattern
 from prescription import read
 from records import file
+from table import ENDS, MEANINGS, WHY
 
 ZERO = pattern(0.0)
 VIGNETTED = " ".join(["0 7 1", pattern(12.0), pattern(10.0), *[ZERO] * 9]) + f"\nend 7 1 {ZERO}\n"
 RAY = "ray x=12 y=0 z=-5 dx=0 dy=0 dz=1 index=1\n"
 PLANE = "conic vertex=0 index=2 c=0 k=0 semi=10\n"
+
+
+def refused_with(number):
+    return " ".join([f"0 {number} 1", *[ZERO] * 11]) + f"\nend {number} 1 {ZERO}\n"
 
 
 def told(listing, *options):
@@ -65,6 +70,11 @@ class Explain(Refusing, unittest.TestCase):
             self.assertIn(said, told(VIGNETTED, "--recipe", self.recipe(RAY + PLANE * surfaces)))
         far = VIGNETTED.replace(pattern(12.0), "7FF0000000000000")
         self.assertIn("farther from the axis than the largest number", told(far))
+
+    def test_every_refusal_has_a_reason(self):
+        for number in ENDS:
+            if number != 7:
+                self.assertIn(f"refused with {number}, {MEANINGS[number]}, after 1 step: {WHY[number]}.\n", told(refused_with(number)))
 
     def test_not_ended(self):
         text = told(f"end 0 3 {ZERO}\n")

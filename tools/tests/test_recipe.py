@@ -44,7 +44,8 @@ class Recipe(Refusing, unittest.TestCase):
         self.assert_refused(ran("recipe", SAMPLES), "samples: Is a directory")
         self.assert_refused(ran("recipe", "no such file"), "no such file: No such file or directory")
         self.assert_refused(ran("recipe", "--back", SAMPLES / "doublet.txt"), "byte 0: ")
-        self.assert_refused(ran("recipe", "--back", given=(SAMPLES / "doublet").read_bytes()[:-1]), "byte 192: surface 3: cut short: 43 of the")
+        cut = (SAMPLES / "doublet").read_bytes()[:-1]
+        self.assert_refused(ran("recipe", "--back", given=cut), "byte 192: surface 3: cut short: 43 of the record's 44 bytes")
         self.assert_refused(ran("recipe", "--back", given=os.urandom(3)), "byte 0: surface 0: cut short")
 
     def test_usage(self):

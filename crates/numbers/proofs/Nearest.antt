@@ -15,10 +15,10 @@ use lib.Ieee.Fits.{and-l, and-r}
 use lib.Ieee.Positive.{positive-finite, positive-of-value}
 use lib.Ieee.Exact.{odd-sign}
 use Rattle.numbers.specs.Sqrt.{units, root, Number, AboveZero, rootUnits, twiceRoot², twiceMidpoint², NoneNearer, NoTie, OnlyOne}
-use Rattle.numbers.specs.Parts.{Near, Scale, patternUnits}
+use Rattle.numbers.specs.Parts.{Near, patternUnits}
 use Rattle.numbers.proofs.Patterns.{pattern}
 use Rattle.numbers.proofs.Roots.{before, nearest-of, long, short}
-use Rattle.numbers.proofs.Scale.{normal-scale, root-odd}
+use Rattle.numbers.proofs.Scale.{Scale, scale, normal-digits, root-odd}
 use Rattle.numbers.proofs.Values.{join, units-of, units-pattern, bits-lt, bits-pos, moved}
 
 -- ---- every value of the format is a number below 2 ^ 53 times a power of two, in units
@@ -158,8 +158,8 @@ nearer (fin false (suc m) e) (h, p) = go (toBits binary64 x) (units-pattern x h 
 
     go : (b : ℕ) → units x ≡ patternUnits b → 0 < b → b < 0x7ff0_0000_0000_0000 → Nearer x (rootUnits (units x))
     go b u o t = elim (decLe (2 ^ 52) b) [
-      | yes l ↦ scaled x b _ _ u (normal-scale b (b / 2 ^ 52 - 1) (omega arith) (omega arith))
-      | no l ↦ scaled x b _ _ u (moved b o (lt-of-not-le l) .scale)
+      | yes l ↦ scaled x b _ _ u (scale (normal-digits b (b / 2 ^ 52 - 1) (omega arith) (omega arith)))
+      | no l ↦ scaled x b _ _ u (scale (moved b o (lt-of-not-le l) .digits))
     ]
 
 -- two that are not equal have one above the other

@@ -9,7 +9,7 @@ use lib.Pow.{pow-add, pow-pos, pow-mono}
 use lib.Ieee.{binary64, size, odd, ofBits, nanBits}
 use lib.Ieee.Digits.{size-lt, size-le}
 use Rattle.numbers.specs.Sqrt.{rounded, rootUnits}
-use Rattle.numbers.specs.Parts.{Near, Scale, patternUnits}
+use Rattle.numbers.specs.Parts.{Near, patternUnits}
 use Rattle.numbers.proofs.Roots.{near-rounded, long, short}
 use Rattle.numbers.proofs.Patterns.{pattern}
 
@@ -56,19 +56,36 @@ even n m p e =
 pub at-most-twice : (m p : ℕ) → m * (p % 2) ≤ m * 1
 at-most-twice m p = mul-le-mul-left m (omega arith)
 
+-- the 53 digits d of the number whose pattern is b, and their place p
+pub record Digits (b d p : ℕ) : Type 0 where
+  pub least : 2 ^ 52 ≤ d
+  pub most : d < 2 ^ 53
+  pub exponent : p < 2098
+  pub place : patternUnits b * 2 ^ 52 ≡ d * 2 ^ p
+
+-- the number whose pattern is b, as m * 2 ^ 52 squares of 2 ^ k
+pub record Scale (b m k : ℕ) : Type 0 where
+  pub low : 2 ^ 52 ≤ m
+  pub high : m + 2 ≤ 2 ^ 54
+  pub exponent : k < 2046
+  pub place : patternUnits b * 2 ^ 1074 ≡ m * 2 ^ 52 * 2 ^ (2 * k)
+
+pub scale : {b d p : ℕ} → Digits b d p → Scale b (d * (p % 2 + 1)) (p / 2 + 485)
+scale {b} {d} {p} h =
+    let t = at-most-twice d p in
+    record { low = omega arith; high = omega arith; exponent = omega arith; place = even (patternUnits b) d p (h .place) }
+
 -- a normal number's pattern, whose exponent's field is e + 1
-normal-even : (b e : ℕ) → b / 2 ^ 52 ≡ e + 1 → patternUnits b * 2 ^ 1074 ≡ (b - e * 2 ^ 52) * (e % 2 + 1) * 2 ^ 52 * 2 ^ (2 * (e / 2 + 511))
-normal-even b e h =
+pub normal-digits : (b e : ℕ) → b / 2 ^ 52 ≡ e + 1 → e < 2046 → Digits b (b - e * 2 ^ 52) (e + 52)
+normal-digits b e h l =
     let f : b / 2 ^ 52 - 1 ≡ e = omega arith in
-    let r : (e + 52) % 2 ≡ e % 2 = omega arith in
-    let s : (e + 52) / 2 + 485 ≡ e / 2 + 511 = omega arith in
-    let m = b - e * 2 ^ 52 in
-    rw f (rw (r, s) at (even (m * 2 ^ e) m (e + 52) (lifted m e)))
+    record { least = omega arith; most = omega arith; exponent = omega arith; place = rw f (lifted (b - e * 2 ^ 52) e) }
   where
     lifted : (m e : ℕ) → m * 2 ^ e * 2 ^ 52 ≡ m * 2 ^ (e + 52)
     lifted m e = rw pow-add (omega arith)
 
 pub normal-scale : (b e : ℕ) → b / 2 ^ 52 ≡ e + 1 → e < 2046 → Scale b ((b - e * 2 ^ 52) * (e % 2 + 1)) (e / 2 + 511)
 normal-scale b e h l =
-    let t = at-most-twice (b - e * 2 ^ 52) e in
-    record { low = omega arith; high = omega arith; exponent = omega arith; place = normal-even b e h }
+    let r : (e + 52) % 2 ≡ e % 2 = omega arith in
+    let s : (e + 52) / 2 + 485 ≡ e / 2 + 511 = omega arith in
+    rw (r, s) at (scale (normal-digits b e h l))

@@ -1,5 +1,4 @@
 -- What the parts of the square root's code say to each other; no promise of the crate cites it. Definitions only.
-use mathlib.Core.Path.{_≡_}
 use Prim.Native.Nat.{ℕ, _+_, _-_, _*_, _/_, _^_, _≤_, _<_}
 
 -- q is the whole number nearest to √n: (q - 1/2)² < n < (q + 1/2)²
@@ -9,10 +8,3 @@ Near n q = (q * q < n + q) × (n ≤ q * q + q)
 -- the units of the number above zero whose pattern is b: a field of 0 counts as a field of 1, and has no leading digit
 abbrev pub patternUnits : ℕ → ℕ
 patternUnits b = (b - (b / 2 ^ 52 - 1) * 2 ^ 52) * 2 ^ (b / 2 ^ 52 - 1)
-
--- the number whose pattern is b, as m * 2 ^ 52 squares of 2 ^ k
-pub record Scale (b m k : ℕ) : Type 0 where
-  pub low : 2 ^ 52 ≤ m
-  pub high : m + 2 ≤ 2 ^ 54
-  pub exponent : k < 2046
-  pub place : patternUnits b * 2 ^ 1074 ≡ m * 2 ^ 52 * 2 ^ (2 * k)

@@ -1,5 +1,5 @@
 // The square root. Float arithmetic makes a guess of which nothing is promised; whole numbers then show that no other binary64 is
-// nearer, and where they do not, they work the root out.
+// nearer, or that a neighbour is nearest, and where they show neither, they work the root out.
 //
 // A number's units are multiples of 2^-1074. Where n units times 2^1074 is m * 2^52 * 2^(2k), and q is the whole number nearest to
 // √(m * 2^52), the root is q * 2^k units, whose pattern is k * 2^52 + q.
@@ -8,15 +8,17 @@ ghost use mathlib.Core.Bool.{true};
 ghost use Prim.Native.Nat.{ℕ, _+_, _*_, _/_, _%_, _^_, _≤_, _<_};
 ghost use Rattle.numbers.specs.Arithmetic.{_<₆₄_};
 ghost use Rattle.numbers.specs.Sqrt.{root, rootUnits};
-ghost use Rattle.numbers.specs.Parts.{Near, Scale, patternUnits};
+ghost use Rattle.numbers.specs.Parts.{Near, patternUnits};
 
 // 2^52: the weight of the exponent's field in a pattern.
 const FIELD: u64 = 0x10_0000_0000_0000;
 
-// The pattern of 1, and the one 2^27 below it.
+// The patterns of 1, of the number 2^27 below it, and of infinity.
 const ONE: u64 = 0x3ff0_0000_0000_0000;
 
 const BELOW_ONE: u64 = 0x3fef_ffff_f800_0000;
+
+const INFINITY: u64 = 0x7ff0_0000_0000_0000;
 
 // The largest r with r * r ≤ n. Each turn takes two more binary digits of n and gives one of r; rest is what r * r leaves of those
 // taken.
@@ -76,6 +78,47 @@ fn is_nearest(m: u64, q: u64) -> bool
     false
 }
 
+// How far p * (p + 1) is above m * 2^52, where it is a little above, and 2^64 - 1 elsewhere. With p = a * 2^26 + c and d = m - a * a that
+// is (2 * a * c - d * 2^26) * 2^26 + c * c + p. a is one less than the upper half of p's digits, so that d is not below 0 where p is
+// near the root.
+fn excess(m: u64, p: u64) -> u64
+    requires { ⌜ (2 ^ 52 ≤ m) × (m < 2 ^ 54) × (2 ^ 51 ≤ p) × (p ≤ 2 ^ 53 + 1) ⌝ }
+    ensures { λ r. ⌜ (r < 2 ^ 63 → p * (p + 1) ≡ m * 2 ^ 52 + r) ⌝ }
+{
+    let a = p / 0x400_0000 - 1;
+    let c = p - a * 0x400_0000;
+    let s = c * c + p;
+    let d = std::num::wrapping_sub_u64(m, a * a);
+    if d < 0x4000_0000 {
+        let w = std::num::wrapping_sub_u64(a * c * 2 + s / 0x400_0000, d * 0x400_0000);
+        if w < 0x4000_0000 {
+            return w * 0x400_0000 + s % 0x400_0000;
+        }
+    }
+    u64::MAX
+}
+
+// The whole number nearest to √(m * 2^52): q + 1, q or q - 1, where one of them is seen to be. p is nearest if p * (p + 1) is above
+// m * 2^52 by less than 2p; from p to the number before it, that falls by 2p.
+fn nearest_beside(m: u64, q: u64) -> u64
+    requires { ⌜ (2 ^ 52 ≤ m) × (m < 2 ^ 54) ⌝ }
+    ensures { λ r. ⌜ Near (m * 2 ^ 52) r ⌝ }
+{
+    if (0x8_0000_0000_0000 <= q) & (q <= 0x20_0000_0000_0000) {
+        let over = excess(m, q + 1);
+        if over < q * 2 + 2 {
+            return q + 1;
+        }
+        if over < q * 4 + 2 {
+            return q;
+        }
+        if over < q * 6 {
+            return q - 1;
+        }
+    }
+    nearest_root(m)
+}
+
 // A float near √(1 + v), for a v within 1/32 of 0: 1 + v/2 - v² (1/8 - v/16 + ..), of which 1 + v/2 is kept in two parts. Nothing is
 // promised of it.
 fn guess_near_one(v: f64) -> f64 {
@@ -123,63 +166,64 @@ fn guess(x: f64, b: u64) -> f64
     }
 }
 
-// A number of n units, where n * 2^1074 is m * 2^52 * 2^(2k), and a guess at its root, or 0.
-struct Scaled {
-    m: u64,
-    k: u64,
-    guess: f64,
-}
-
-// A normal number, whose exponent's field is e + 1.
-fn scale_normal(x: f64, b: u64, e: u64) -> Scaled
-    requires { ⌜ (b / 2 ^ 52 ≡ e + 1) × (e < 2046) ⌝ }
-    ensures { λ r. ⌜ Scale b (r .m) (r .k) ⌝ }
-{
-    Scaled {
-        m: (b - e * FIELD) * (e % 2 + 1),
-        k: e / 2 + 511,
-        guess: guess(x, b),
-    }
-}
-
-// A subnormal number: its digits are moved up to where a normal number's stand, and no guess is made.
-fn scale_subnormal(b: u64) -> Scaled
-    requires { ⌜ (0 < b) × (b < 2 ^ 52) ⌝ }
-    ensures { λ r. ⌜ Scale b (r .m) (r .k) ⌝ }
-{
-    let z = u64::leading_zeros(b) as u64 - 11;
-    let p = 52 - z;
-    Scaled {
-        m: (b << z) * (p % 2 + 1),
-        k: p / 2 + 485,
-        guess: 0.0,
-    }
-}
-
-// e is one less than the exponent's field, and has wrapped at a subnormal number.
-fn scale(x: f64, b: u64, e: u64) -> Scaled
-    requires { ⌜ (0 < b) × (b < 0x7ff0_0000_0000_0000) × ((e + 1) % 2 ^ 64 ≡ b / 2 ^ 52) ⌝ }
-    ensures { λ r. ⌜ Scale b (r .m) (r .k) ⌝ }
-{
-    if e < 2046 {
-        scale_normal(x, b, e)
-    } else {
-        scale_subnormal(b)
-    }
-}
-
-// The root of n units, where n * 2^1074 is m * 2^52 * 2^(2k): g, if it is seen to be that.
-fn scaled_root(m: u64, k: u64, g: f64) -> f64
+// The root of n units, where n * 2^1074 is m * 2^52 * 2^(2k), from a guess q at its digits.
+fn corrected_root(m: u64, k: u64, q: u64) -> f64
     requires { ⌜ (2 ^ 52 ≤ m) × (m + 2 ≤ 2 ^ 54) × (k < 2046) ⌝ }
     ensures { λ r. ⌜ ((n : ℕ) → n * 2 ^ 1074 ≡ m * 2 ^ 52 * 2 ^ (2 * k) → r ≡ rootUnits n) ⌝ }
 {
+    f64::from_bits(k * FIELD + nearest_beside(m, q))
+}
+
+// The digits of a float from 1 to 2. Nothing is promised of it.
+fn digits(g: f64) -> u64 {
+    if g > 0.0 {
+        std::num::wrapping_sub_u64(f64::to_bits(g), 1022 * FIELD)
+    } else {
+        0
+    }
+}
+
+// The root of n units, where n * 2^52 is d * 2^p: it has the digits of the root of a number from 1 to 4, at which the guess is made.
+fn root_of_digits(d: u64, p: u64) -> f64
+    requires { ⌜ (2 ^ 52 ≤ d) × (d < 2 ^ 53) × (p < 2098) ⌝ }
+    ensures { λ r. ⌜ ((n : ℕ) → n * 2 ^ 52 ≡ d * 2 ^ p → r ≡ rootUnits n) ⌝ }
+{
+    let b = (p % 2 + 1022) * FIELD + d;
+    let g = guess_anywhere(f64::from_bits(b), b);
+    corrected_root(d * (p % 2 + 1), p / 2 + 485, digits(g))
+}
+
+// The root of any number above zero: a subnormal number's digits are moved up to where a normal number's stand.
+fn far_root(b: u64) -> f64
+    requires { ⌜ (0 < b) × (b < 0x7ff0_0000_0000_0000) ⌝ }
+    ensures { λ r. ⌜ r ≡ rootUnits (patternUnits b) ⌝ }
+{
+    if b < FIELD {
+        let z = u64::leading_zeros(b) as u64 - 11;
+        return root_of_digits(b << z, 52 - z);
+    }
+    let e = b / FIELD - 1;
+    root_of_digits(b - e * FIELD, e + 52)
+}
+
+// The root of a number from 2^-959 to 2^961, whose guess neither overflows nor meets subnormal numbers, at which processors are slow:
+// the guess itself, if it is seen to be nearest.
+fn middle_root(x: f64, b: u64) -> f64
+    requires { ⌜ (64 ≤ b / 2 ^ 52) × (b / 2 ^ 52 < 1984) ⌝ }
+    ensures { λ r. ⌜ r ≡ rootUnits (patternUnits b) ⌝ }
+{
+    let g = guess(x, b);
+    let e = b / FIELD - 1;
+    let m = (b - e * FIELD) * (e % 2 + 1);
+    let k = e / 2 + 511;
     if g > 0.0 {
         let q = std::num::wrapping_sub_u64(f64::to_bits(g), k * FIELD);
         if is_nearest(m, q) {
             return g;
         }
+        return corrected_root(m, k, q);
     }
-    f64::from_bits(k * FIELD + nearest_root(m))
+    far_root(b)
 }
 
 // The root of a number within 2^27 units in the last place of 1: halfway from 1, and one unit down where that is between two.
@@ -199,12 +243,13 @@ pub fn sqrt(x: f64) -> f64
         if std::num::wrapping_sub_u64(b, BELOW_ONE) < 0x1000_0000 {
             return near_one(b);
         }
-        let e = std::num::wrapping_sub_u64(b / FIELD, 1);
-        if e == 2046 {
-            return x;
+        if std::num::wrapping_sub_u64(b / FIELD, 64) < 1920 {
+            return middle_root(x, b);
         }
-        let s = scale(x, b, e);
-        return scaled_root(s.m, s.k, s.guess);
+        if b < INFINITY {
+            return far_root(b);
+        }
+        return x;
     }
     if x < 0.0 { 0.0 / 0.0 } else { x }
 }

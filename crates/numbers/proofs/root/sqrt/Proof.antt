@@ -67,23 +67,26 @@ returns c = c .near-one .ensures ∙ finite (c .before .before .before) (omega a
 wrapping-sub-u64-requires-2 : tie.Need-wrapping-sub-u64-requires-2
 wrapping-sub-u64-requires-2 c κs = search needs
 
+middle-root-requires : tie.Need-middle-root-requires
+middle-root-requires c κs = search needs
+
 returns-2 : tie.Need-returns-2
-returns-2 c = of-infinite (above (c .before .before .before .before)) (held (c .before .before .before .before .before)) (omega arith)
+returns-2 c = c .middle-root .ensures ∙ finite (c .before .before .before .before .before) (omega arith)
 
-scale-requires : tie.Need-scale-requires
-scale-requires c κs = omega (arith, within (c .before .before .before .before))
-
-scaled-root-requires : tie.Need-scaled-root-requires
-scaled-root-requires c κs = (c .scale .ensures .low, c .scale .ensures .high, c .scale .ensures .exponent)
+far-root-requires : tie.Need-far-root-requires
+far-root-requires c κs = omega (arith, within (c .before .before .before .before .before))
 
 returns-3 : tie.Need-returns-3
-returns-3 c = c .scaled-root .ensures (patternUnits (toBits binary64 (c .before .before .before .before .before .before .before .args .x))) (c .before .scale .ensures .place) ∙ finite (c .before .before .before .before .before .before) (omega (arith, within (c .before .before .before .before .before .before)))
+returns-3 c = c .far-root .ensures ∙ finite (c .before .before .before .before .before .before) (omega arith)
 
 returns-4 : tie.Need-returns-4
-returns-4 c = of-negative (negative (c .before .before .args .x) (c .if4 .taken))
+returns-4 c = of-infinite (above (c .before .before .before .before .before)) (held (c .before .before .before .before .before .before)) (omega arith)
 
 returns-5 : tie.Need-returns-5
-returns-5 c = of-neither (neither (c .before .before .args .x) (c .if4 .left) (c .before .if1 .left))
+returns-5 c = of-negative (negative (c .before .before .args .x) (c .if5 .taken))
+
+returns-6 : tie.Need-returns-6
+returns-6 c = of-neither (neither (c .before .before .args .x) (c .if5 .left) (c .before .if1 .left))
 
 pub sqrt-spec : {M : Type 1} → statement M
 sqrt-spec =
@@ -94,9 +97,10 @@ sqrt-spec =
     near-one-requires
     returns
     wrapping-sub-u64-requires-2
+    middle-root-requires
     returns-2
-    scale-requires
-    scaled-root-requires
+    far-root-requires
     returns-3
     returns-4
-    returns-5)
+    returns-5
+    returns-6)

@@ -1,22 +1,19 @@
 -- A number below y * y, as that product rounds, has no root above y. Assumes nothing.
 use mathlib.Core.Path.{_≡_, refl, sym, _∙_}
-use Prim.Native.Nat.{ℕ, zero, suc, _+_, _-_, _*_, _/_, _^_, _≤_, _<_}
-use native.Mathlib.Nat.{le-of-lt, lt-of-lt-of-le, lt-of-not-le, mul-le-mul, mul-le-mul-left, mul-le-mul-right, mul-pos, not-le-of-lt, zero-lt-suc}
+use Prim.Native.Nat.{ℕ, zero, suc, _+_, _-_, _*_, _^_, _≤_, _<_}
+use native.Mathlib.Nat.{le-of-lt, lt-of-not-le, mul-le-mul, mul-le-mul-left, mul-le-mul-right, mul-pos, not-le-of-lt}
 use native.Mathlib.Omega.{arith}
 use mathlib.Core.Bool.{true, false, false≢true, not-eq-not}
 use borrow.Author.Tests.{ltb-true, le-ltb}
-use lib.Dec.{T, ltb, lt→ltb}
-use lib.Pow.{pow-pos, pow-mono, shl-lt}
-use lib.Ieee.{Float, nan, inf, fin, binary64, up, down, fits, round, mul, lt, le, toBits}
-use lib.Ieee.Exact.{HasValue, round-exact}
-use lib.Ieee.Fits.{round-fits}
+use lib.Dec.{T, ltb}
+use lib.Pow.{pow-pos}
+use lib.Ieee.{Float, nan, inf, fin, binary64, up, down, fits, round, mul, lt, le}
 use lib.Ieee.Order.{le-of-values, round-mono}
-use lib.Ieee.Positive.{num, den, positive, positive-finite, positive-of-value, value-pos, le→cross, between, mul-at}
+use lib.Ieee.Positive.{num, den, positive, positive-finite, le→cross, between, mul-at}
 use Rattle.numbers.specs.Sqrt.{units, root, AboveZero}
-use Rattle.numbers.specs.Parts.{patternUnits}
-use Rattle.numbers.proofs.Nearest.{none-nearer, same-units}
+use Rattle.numbers.proofs.Nearest.{none-nearer}
 use Rattle.numbers.proofs.Signs.{Positive, infinity, plus}
-use Rattle.numbers.proofs.Values.{bits-lt, units-of, units-pattern, value-pattern}
+use Rattle.numbers.proofs.Rounds.{value, itself, some}
 
 -- ---- the order of numbers above zero
 
@@ -30,28 +27,6 @@ unfolding le
 not-both x y p h k =
     let q = between x y x p p (rw h tt) k in
     not-le-of-lt (crossed x y p q h) (le→cross y x q p k)
-
--- ---- a number above zero is its units over 2 ^ 1074, and that fraction rounds to it
-
-bits : (x : Float) → AboveZero x → toBits binary64 x < 0x7ff0_0000_0000_0000
-bits (fin false (suc m) e) (h, p) = bits-lt m e h
-
-value : (x : Float) → AboveZero x → HasValue x false (units x) (2 ^ 1074)
-value x h = rw (units-pattern x (h .0) (bits x h)) (value-pattern x (h .0) (bits x h))
-
--- a pattern's units have at most 53 digits before their zeros, so rounding loses none
-exact : (b : ℕ) → b < 0x7ff0_0000_0000_0000 → HasValue (round binary64 false (patternUnits b) (2 ^ 1074)) false (patternUnits b) (2 ^ 1074)
-exact b h =
-    let k = b / 2 ^ 52 - 1 in
-    let q : b - k * 2 ^ 52 < 2 ^ 53 = omega arith in
-    round-exact binary64 false (patternUnits b) (2 ^ 1074) (b - k * 2 ^ 52) k (pow-pos 1074) q (lt-of-lt-of-le (shl-lt 53 k q) (pow-mono {j = 2098} (omega arith))) refl
-
-itself : (x : Float) → AboveZero x → round binary64 false (units x) (2 ^ 1074) ≡ x
-itself x h =
-    let r = round binary64 false (units x) (2 ^ 1074) in
-    let v : HasValue r false (units x) (2 ^ 1074) = rw (units-pattern x (h .0) (bits x h)) (exact (toBits binary64 x) (bits x h)) in
-    let p = positive-of-value r (units x) (2 ^ 1074) v (value-pos x (units x) (2 ^ 1074) (h .1) (pow-pos 1074) (value x h)) in
-    same-units r x (round-fits binary64 false (units x) (2 ^ 1074), p) h (units-of r (units x) v)
 
 smaller : (x y : Float) → AboveZero x → AboveZero y → lt x y ≡ true → units x < units y
 smaller x y h k l =
@@ -90,9 +65,6 @@ unfolding lt
 top nan = refl
 top (inf s) = refl
 top (fin s m e) = refl
-
-some : (m : ℕ) → T (ltb 0 (suc m))
-some m = lt→ltb 0 (suc m) (zero-lt-suc m)
 
 pub not-above : (x y : Float) → T (fits binary64 x) → T (fits binary64 y) → Positive y → lt x (mul binary64 y y) ≡ true → lt y (root x) ≡ false
 unfolding root lt

@@ -23,7 +23,7 @@ lifted : (m : ℕ) (e : ℤ) → toBits binary64 (fin true m e) ≡ 2 ^ 63 + toB
 unfolding toBits
 lifted m e = omega arith
 
-pub held-magnitude : (x : Float) → T (fits binary64 x) → T (fits binary64 (magnitude x))
+held-magnitude : (x : Float) → T (fits binary64 x) → T (fits binary64 (magnitude x))
 unfolding magnitude fits
 held-magnitude nan h = tt
 held-magnitude (inf s) h = tt

@@ -6,4 +6,5 @@ pub mod Signs
 mod Values
 mod Floats
 pub mod Nearest
+mod Rounds
 mod Exceeds

@@ -1,22 +1,17 @@
 -- The bit patterns of binary64: which are no NaN's, and which number one below infinity's stands for. Assumes nothing.
-use mathlib.Core.Path.{_≡_, refl, sym, ap, _∙_}
+use mathlib.Core.Path.{_≡_, refl, ap, _∙_}
 use Prim.Native.Nat.{ℕ, suc, _+_, _-_, _*_, _/_, _%_, _^_, _≤_, _<_}
 use native.Mathlib.Nat.{mod-eq-of-lt, div-eq-of-lt}
 use native.Mathlib.Omega.{arith}
 use mathlib.Core.Bool.{false, not}
 use lib.Dec.{T, leb}
-use borrow.Author.Tests.{lt-leb, le-ltb, ltb-false, ne-eqb}
-use lib.Ieee.{Float, binary64, fits, isNan, odd, ofFields, ofBits, toBits, nanBits}
-use lib.Ieee.Bits.{is-false, nanBits-above, nanBits-is, ofBits-toBits}
+use borrow.Author.Tests.{lt-leb, le-ltb, ne-eqb}
+use lib.Ieee.{binary64, odd, ofFields, ofBits, nanBits}
+use lib.Ieee.Bits.{nanBits-above}
 
 -- the sign aside, a pattern above infinity's is a NaN's, and no other is
 pub within : (b : ℕ) → b % 2 ^ 63 ≤ 0x7ff0_0000_0000_0000 → T (not (nanBits binary64 b))
 within b h = rw (nanBits-above binary64 b, le-ltb 0x7ff0_0000_0000_0000 (b % 2 ^ 63) h) tt
-
-pub bounded : (x : Float) → T (fits binary64 x) → T (not (isNan x)) → toBits binary64 x % 2 ^ 63 ≤ 0x7ff0_0000_0000_0000
-bounded x f h =
-    let e = sym (nanBits-above binary64 (toBits binary64 x)) ∙ nanBits-is binary64 (toBits binary64 x) ∙ ap isNan (ofBits-toBits binary64 x f) ∙ is-false (isNan x) h in
-    ltb-false 0x7ff0_0000_0000_0000 (toBits binary64 x % 2 ^ 63) e
 
 ofBits-is : (b : ℕ) → ofBits binary64 b ≡ ofFields binary64 (leb (2 ^ 63) b) (b % 2 ^ 63 / 2 ^ 52) (b % 2 ^ 52)
 unfolding ofBits

@@ -28,14 +28,11 @@ pub fn is_infinite(x: f64) -> bool
     abs(x) == 1.0 / 0.0
 }
 
-// The sign is the pattern's first digit. A NaN has no pattern to rely on.
+// 0.0 less a zero of either sign is +0.0, and less a NaN is NaN.
 pub fn abs(x: f64) -> f64
     ensures { λ r. ⌜ r ≡ magnitude x ⌝ }
 {
-    if is_nan(x) {
-        return x;
-    }
-    f64::from_bits(f64::to_bits(x) % 0x8000_0000_0000_0000)
+    if x > 0.0 { x } else { 0.0 - x }
 }
 
 // Beyond the first two tests one is NaN or both are equal, and of equal ones only the signs of zeros differ.

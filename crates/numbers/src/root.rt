@@ -131,7 +131,7 @@ fn guess_near_one(v: f64) -> f64 {
     let b = 0.020507812505108226 - 0.016113281254518958 * v
         + (0.013092026371944643 - 0.010910021225290037 * v) * v2;
     let c = 0.00929065949792448 - 0.008024111095079119 * v;
-    upper + (lower - v2 * (a + (b + c * v4) * v4))
+    upper + (lower - v2 * a - v2 * v4 * (b + c * v4))
 }
 
 // A float near √x, for an x whose pattern is b: the nearest but for about one in four thousand. Nothing is promised of it.
@@ -155,15 +155,19 @@ fn guess_anywhere(x: f64, b: u64) -> f64
     g + (x - g * g) * j * (1.7500000000002907 - (g + half) * j)
 }
 
+// Near 1 lie the radicands of surfaces that are not steep, near 4 their discriminants.
 fn guess(x: f64, b: u64) -> f64
     requires { ⌜ b < 0x7ff0_0000_0000_0000 ⌝ }
 {
     let v = x - 1.0;
     if v * v < 0.0009765625 {
-        guess_near_one(v)
-    } else {
-        guess_anywhere(x, b)
+        return guess_near_one(v);
     }
+    let w = x * 0.25 - 1.0;
+    if w * w < 0.0009765625 {
+        return 2.0 * guess_near_one(w);
+    }
+    guess_anywhere(x, b)
 }
 
 // The root of n units, where n * 2^1074 is m * 2^52 * 2^(2k), from a guess q at its digits.

@@ -1,0 +1,160 @@
+/* Pilingrue follows one alignment beam through a lens recipe, a few steps in each controller scan, and shows a record only once it is
+   final. This is all of its C interface; link libstation.a.
+
+   A station works like this:
+
+     pilingrue_start      once for each lens: checks recipe and beam, blanks the result buffer, takes no step;
+     pilingrue_continue   in each scan, with as many steps as the scan has time for, until counts[PILINGRUE_COUNTS_OUTCOME] is not 0;
+     pilingrue_whole      instead of both, where there is time for all steps at once.
+
+   After each call every record in the buffer is either finished, and then the same bit by bit as in the unbroken trace, or blank: +0.0
+   in all of its numbers. (Nobody else may change the buffer and the state in between.) Nothing of the last lens is left after a start,
+   a refused one included. So read a record's status first: only a 1 is a hit, and a 0 is blank.
+
+   The library has no memory of its own. A call reads and writes what it is lent here and nothing else, so any number of traces may be
+   under way at once. It takes about 2 KB of stack, and of the C library it asks for memset and at most memcpy. Every call ends, with an
+   answer or a refusal, whatever the bytes and numbers are. Lengths are in millimetres. */
+#ifndef PILINGRUE_H
+#define PILINGRUE_H
+
+#include <stddef.h>
+#include <stdint.h>
+
+#ifdef __cplusplus
+extern "C" {
+#endif
+
+/* The version of this header. A program that is linked with another archive sees another pilingrue_version(). */
+#define PILINGRUE_VERSION 1
+
+/* The table of numbers: what a call answers, how a trace ended (its outcome), and the status of a record. */
+#define PILINGRUE_BLANK 0                  /* status: the record is not finished, and nothing in it may be used */
+#define PILINGRUE_RUNNING 0                /* outcome: the trace has not ended */
+#define PILINGRUE_HIT 1                    /* status: the beam hit the surface and goes on */
+#define PILINGRUE_DONE 1                   /* outcome: the beam hit all surfaces */
+#define PILINGRUE_ACCEPTED 1               /* answer: the call was accepted. The outcome says where the beam went */
+#define PILINGRUE_BAD_PARAMETER 2          /* a number is not finite, or a negative semi-diameter of a surface that is no conic */
+#define PILINGRUE_NEGATIVE_SEMI_DIAMETER 3 /* negative semi-diameter of a conic */
+#define PILINGRUE_SINGULAR 4               /* no direction or slope can be computed, or an index is not above 0 */
+#define PILINGRUE_OUTSIDE_DOMAIN 5         /* outside the surface's domain */
+#define PILINGRUE_MISSED 6                 /* the beam missed the surface */
+#define PILINGRUE_VIGNETTED 7              /* the beam met the surface beyond its semi-diameter; the record has both */
+#define PILINGRUE_TOTAL_REFLECTION 8       /* total internal reflection */
+#define PILINGRUE_NOT_FINITE 9             /* a number of the result is not finite */
+#define PILINGRUE_MALFORMED 10             /* malformed recipe; the verdict has the byte place of the record */
+#define PILINGRUE_BUFFER_TOO_SHORT 11      /* the result buffer has no room for all surfaces */
+#define PILINGRUE_STATE_DOES_NOT_FIT 12    /* the state does not fit the recipe */
+
+/* What a call answers: 1, or why it was refused, and the byte place in the recipe of the record that was refused, else 0. */
+typedef struct pilingrue_verdict {
+    uint64_t number;
+    uint64_t place;
+} pilingrue_verdict;
+
+/* The result buffer has PILINGRUE_RECORD_NUMBERS numbers for each surface, in the recipe's order: the record of surface i begins at
+   buffer[PILINGRUE_RECORD_NUMBERS * i]. The buffer may be longer than the recipe needs: a start blanks it to its end. */
+#define PILINGRUE_RECORD_NUMBERS 13
+#define PILINGRUE_RECORD_STATUS 0    /* a number of the table; 0 is blank */
+#define PILINGRUE_RECORD_T 1         /* distance along the beam, in lengths of its direction */
+#define PILINGRUE_RECORD_POINT 2     /* x, y, z of the hit */
+#define PILINGRUE_RECORD_NORMAL 5    /* x, y, z of the surface's normal there */
+#define PILINGRUE_RECORD_DIRECTION 8 /* x, y, z of the new direction */
+#define PILINGRUE_RECORD_FRONT 11    /* 1.0 if the beam came against the normal, else 0.0 */
+#define PILINGRUE_RECORD_STEPS 12    /* steps that the surface took */
+/* The record of a surface that refused the beam has status and steps, for a 7 also these two, and +0.0 in all else. */
+#define PILINGRUE_RECORD_R 1         /* distance from the axis at which the beam met the surface; may be infinite */
+#define PILINGRUE_RECORD_LIMIT 2     /* the semi-diameter */
+
+/* The state of a trace is two arrays. Keep them from call to call and do not change them. Kept with the recipe and the buffer over a
+   power cycle, they let the trace go on as if nothing had been. Any other contents are answered too: 12, or the trace that they tell. */
+#define PILINGRUE_COUNTS 5
+#define PILINGRUE_COUNTS_SURFACE 0 /* number of the surface that the beam is on its way to, from 0; once done, how many there are */
+#define PILINGRUE_COUNTS_PLACE 1   /* byte place of its record in the recipe */
+#define PILINGRUE_COUNTS_PASSES 2  /* steps made on it so far */
+#define PILINGRUE_COUNTS_STEPS 3   /* steps made on all surfaces */
+#define PILINGRUE_COUNTS_OUTCOME 4 /* 0 while the trace runs, 1 when it is done, else what ended it */
+#define PILINGRUE_NUMBERS 9
+#define PILINGRUE_NUMBERS_T 0         /* how far the search on this surface has come */
+#define PILINGRUE_NUMBERS_ORIGIN 1    /* x, y, z of where the beam comes from */
+#define PILINGRUE_NUMBERS_DIRECTION 4 /* x, y, z of where it goes */
+#define PILINGRUE_NUMBERS_INDEX 7     /* refractive index that it is in */
+#define PILINGRUE_NUMBERS_PATH 8      /* the sum of t over all hits */
+
+/* A recipe is one record after the other, without gaps: a u16 length (the bytes after itself), a u16 kind, then binary64 numbers, all
+   little-endian. Each begins with vertex z and the refractive index behind the surface, then by kind:
+
+     kind               numbers                              length
+     1  conic           c, k, semi-diameter                  42
+     2  even asphere    c, k, semi-diameter, 0 to 8 more     42 + 8 for each coefficient
+     3  biconic         cx, kx, cy, ky, semi-diameter        58
+     4  toroid          rx, cy, ky, semi-diameter            50
+
+   c is a curvature, k a conic constant. Kind + 256 is the same surface as a mirror: its index is checked and not used. An empty recipe
+   is done at once. */
+#define PILINGRUE_KIND_CONIC 1
+#define PILINGRUE_KIND_EVEN_ASPHERE 2
+#define PILINGRUE_KIND_BICONIC 3
+#define PILINGRUE_KIND_TOROID 4
+#define PILINGRUE_KIND_MIRROR 256
+#define PILINGRUE_MOST_RECORDS 512
+#define PILINGRUE_MOST_RECIPE_BYTES 55296 /* of 512 even aspheres with 8 coefficients each */
+
+/* A step is a whole conic, or one pass of the search on another kind. A surface takes at most so many; so the sum over the recipe is
+   the most that a trace takes, and never more than 512 * 35 = 17,920. */
+#define PILINGRUE_STEPS_CONIC 1
+#define PILINGRUE_STEPS_EVEN_ASPHERE 25
+#define PILINGRUE_STEPS_BICONIC 35
+#define PILINGRUE_STEPS_TOROID 35
+
+/* The version of the archive. */
+uint64_t pilingrue_version(void);
+
+/* Starts a trace: beam from (ox, oy, oz) in direction (dx, dy, dz), in a medium of this refractive index. Give a direction of length 1:
+   the first t is counted in its lengths. No step is taken.
+
+   recipe     read only
+   buffer     all `room` numbers become +0.0, whatever is answered
+   counts     written, whatever is answered
+   numbers    written, whatever is answered
+
+   Checked in this order: each record by itself, its shape (10), that its numbers are finite (2), its semi-diameter (3 for a conic, 2 for
+   the others), its index (4); then the beam, that its numbers are finite (2) and its index is above 0 (4); then the room (11). After a
+   refusal the outcome is its number, and all else in both arrays 0: to continue that is 12. */
+pilingrue_verdict pilingrue_start(const uint8_t *recipe, size_t recipe_bytes, double ox, double oy, double oz, double dx, double dy,
+                                  double dz, double index, double *buffer, size_t room, uint64_t counts[PILINGRUE_COUNTS],
+                                  double numbers[PILINGRUE_NUMBERS]);
+
+/* Takes up to `allowed` steps, none once the trace has ended. Give the recipe, the buffer and the arrays as the last call left them.
+
+   recipe     read only
+   buffer     accepted: the records of the surfaces that end in this call are written, and no other number. Refused: nothing is written
+   counts     accepted: written. Refused: nothing is written
+   numbers    accepted: written. Refused: nothing is written
+
+   Checked in this order: the recipe as in a start, the room (11), the state (12). A trace that a start began, and that is continued with
+   the same recipe and enough room, is never refused. Where the beam is lost the call is accepted, and the outcome says how it was lost.
+   C narrows an allowance above 65,535 to 16 bits before the call: 65,536 becomes 0. */
+pilingrue_verdict pilingrue_continue(const uint8_t *recipe, size_t recipe_bytes, double *buffer, size_t room,
+                                     uint64_t counts[PILINGRUE_COUNTS], double numbers[PILINGRUE_NUMBERS], uint16_t allowed);
+
+/* The whole trace in one call: a start, then all steps. Arguments, refusals and what is written are a start's; if it is accepted the
+   trace has ended. */
+pilingrue_verdict pilingrue_whole(const uint8_t *recipe, size_t recipe_bytes, double ox, double oy, double oz, double dx, double dy,
+                                  double dz, double index, double *buffer, size_t room, uint64_t counts[PILINGRUE_COUNTS],
+                                  double numbers[PILINGRUE_NUMBERS]);
+
+/* What C must not do. The calls cannot see it, and nothing can be said of what happens then:
+
+   - a null pointer, also where the length is 0: lend any valid address;
+   - memory that is shorter than its length says, or an array that is shorter than declared here;
+   - a buffer or an array that is not aligned as its type asks (the recipe's bytes may stand anywhere);
+   - recipe, buffer and the two arrays that overlap;
+   - another thread, interrupt or device that writes them during a call, or reads buffer and arrays before it has returned: a record is
+     whole between calls. Copy it out for others then;
+   - another rounding than to nearest, or subnormal numbers taken as zero (FTZ, DAZ): the defaults of C and of the processor are right. */
+
+#ifdef __cplusplus
+}
+#endif
+
+#endif

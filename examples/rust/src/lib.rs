@@ -1,0 +1,164 @@
+//! Safe functions over the trace of `libstation.a`. `include/pilingrue.h` has what each call does; the constants are the header's, without
+//! their prefix.
+
+mod raw;
+
+pub use raw::Verdict;
+
+pub const VERSION: u64 = 1;
+
+pub const BLANK: u64 = 0;
+pub const RUNNING: u64 = 0;
+pub const HIT: u64 = 1;
+pub const DONE: u64 = 1;
+pub const ACCEPTED: u64 = 1;
+pub const BAD_PARAMETER: u64 = 2;
+pub const NEGATIVE_SEMI_DIAMETER: u64 = 3;
+pub const SINGULAR: u64 = 4;
+pub const OUTSIDE_DOMAIN: u64 = 5;
+pub const MISSED: u64 = 6;
+pub const VIGNETTED: u64 = 7;
+pub const TOTAL_REFLECTION: u64 = 8;
+pub const NOT_FINITE: u64 = 9;
+pub const MALFORMED: u64 = 10;
+pub const BUFFER_TOO_SHORT: u64 = 11;
+pub const STATE_DOES_NOT_FIT: u64 = 12;
+
+pub const RECORD_NUMBERS: usize = 13;
+pub const RECORD_STATUS: usize = 0;
+pub const RECORD_T: usize = 1;
+pub const RECORD_POINT: usize = 2;
+pub const RECORD_NORMAL: usize = 5;
+pub const RECORD_DIRECTION: usize = 8;
+pub const RECORD_FRONT: usize = 11;
+pub const RECORD_STEPS: usize = 12;
+pub const RECORD_R: usize = 1;
+pub const RECORD_LIMIT: usize = 2;
+
+pub const COUNTS: usize = 5;
+pub const COUNTS_SURFACE: usize = 0;
+pub const COUNTS_PLACE: usize = 1;
+pub const COUNTS_PASSES: usize = 2;
+pub const COUNTS_STEPS: usize = 3;
+pub const COUNTS_OUTCOME: usize = 4;
+pub const NUMBERS: usize = 9;
+pub const NUMBERS_T: usize = 0;
+pub const NUMBERS_ORIGIN: usize = 1;
+pub const NUMBERS_DIRECTION: usize = 4;
+pub const NUMBERS_INDEX: usize = 7;
+pub const NUMBERS_PATH: usize = 8;
+
+pub const KIND_CONIC: u16 = 1;
+pub const KIND_EVEN_ASPHERE: u16 = 2;
+pub const KIND_BICONIC: u16 = 3;
+pub const KIND_TOROID: u16 = 4;
+pub const KIND_MIRROR: u16 = 256;
+pub const MOST_RECORDS: usize = 512;
+pub const MOST_RECIPE_BYTES: usize = 55296;
+
+pub const STEPS_CONIC: u16 = 1;
+pub const STEPS_EVEN_ASPHERE: u16 = 25;
+pub const STEPS_BICONIC: u16 = 35;
+pub const STEPS_TOROID: u16 = 35;
+
+/// A beam: where it comes from, where it goes, and the refractive index that it is in.
+#[derive(Clone, Copy, Debug)]
+pub struct Beam {
+    pub origin: [f64; 3],
+    pub direction: [f64; 3],
+    pub index: f64,
+}
+
+/// A trace's state. Kept with the recipe and the buffer, it outlives a power cycle.
+#[derive(Clone, Copy, Debug, Default)]
+pub struct State {
+    pub counts: [u64; COUNTS],
+    pub numbers: [f64; NUMBERS],
+}
+
+/// A surface's record: a point can only be had of a hit.
+#[derive(Clone, Copy, Debug)]
+pub enum Record {
+    Blank,
+    Hit { t: f64, point: [f64; 3], normal: [f64; 3], direction: [f64; 3], front: bool, steps: u16 },
+    Vignetted { r: f64, limit: f64, steps: u16 },
+    Refused { number: u64, steps: u16 },
+}
+
+/// One trace at a time, in a lent buffer.
+pub struct Trace<'a> {
+    recipe: &'a [u8],
+    buffer: &'a mut [f64],
+    state: State,
+}
+
+/// The version of the archive.
+pub fn version() -> u64 {
+    raw::pilingrue_version()
+}
+
+impl Record {
+    pub fn of(record: &[f64; RECORD_NUMBERS]) -> Record {
+        let three = |at| std::array::from_fn(|i| record[at + i]);
+        let steps = record[RECORD_STEPS] as u16;
+        match record[RECORD_STATUS] as u64 {
+            BLANK => Record::Blank,
+            HIT => Record::Hit {
+                t: record[RECORD_T],
+                point: three(RECORD_POINT),
+                normal: three(RECORD_NORMAL),
+                direction: three(RECORD_DIRECTION),
+                front: record[RECORD_FRONT] == 1.0,
+                steps,
+            },
+            VIGNETTED => Record::Vignetted { r: record[RECORD_R], limit: record[RECORD_LIMIT], steps },
+            number => Record::Refused { number, steps },
+        }
+    }
+}
+
+impl<'a> Trace<'a> {
+    /// No trace yet, and a blank buffer.
+    pub fn new(recipe: &'a [u8], buffer: &'a mut [f64]) -> Trace<'a> {
+        buffer.fill(0.0);
+        Trace::restored(recipe, buffer, State::default())
+    }
+
+    /// A trace from what was kept of it.
+    pub fn restored(recipe: &'a [u8], buffer: &'a mut [f64], state: State) -> Trace<'a> {
+        Trace { recipe, buffer, state }
+    }
+
+    /// Blanks the buffer and starts with this beam. No step is taken.
+    pub fn start(&mut self, beam: &Beam) -> Result<(), Verdict> {
+        raw::start(self.recipe, beam, self.buffer, &mut self.state).accepted()
+    }
+
+    /// Takes up to so many steps, none once the trace has ended.
+    pub fn resume(&mut self, allowed: u16) -> Result<(), Verdict> {
+        raw::resume(self.recipe, self.buffer, &mut self.state, allowed).accepted()
+    }
+
+    /// A start and all steps.
+    pub fn whole(&mut self, beam: &Beam) -> Result<(), Verdict> {
+        raw::whole(self.recipe, beam, self.buffer, &mut self.state).accepted()
+    }
+
+    pub fn state(&self) -> State {
+        self.state
+    }
+
+    pub fn buffer(&self) -> &[f64] {
+        self.buffer
+    }
+
+    /// The record of a surface, blank where the buffer has none.
+    pub fn record(&self, surface: usize) -> Record {
+        let record = self.buffer.chunks_exact(RECORD_NUMBERS).nth(surface);
+        record.and_then(|record| record.first_chunk()).map_or(Record::Blank, Record::of)
+    }
+
+    pub fn outcome(&self) -> u64 {
+        self.state.counts[COUNTS_OUTCOME]
+    }
+}

@@ -35,6 +35,12 @@ fn landing(found: Result<(f64, Vec3), error::OpticsError>) -> f64 {
     found.map_or(0.0, |(t, p)| t + p.x + p.y + p.z)
 }
 
+/// From air to glass, by indices that the compiler does not know, as ours does not.
+fn refracted(direction: Vec3, normal: Vec3) -> Result<Vec3, error::OpticsError> {
+    let (n1, n2) = black_box((1.0, 1.5));
+    snell_refract(direction, normal, n1, n2)
+}
+
 /// Rays from about 10 mm before the vertex, up to 4 mm off the axis and a little oblique.
 fn rays() -> Vec<Numbers> {
     let mut drawn = Sequence::new();
@@ -59,7 +65,7 @@ fn main() {
             &mut |r| measured_conic_then(r[0], r[1], r[2], r[3], r[4], r[5], 0.0, c, k, 8.0, 1.0, 1.5),
             &mut |r| {
                 let r = ray(r);
-                intersect_conic(&r, black_box(&s), 0).and_then(|h| snell_refract(r.direction, h.normal, 1.0, 1.5)).map_or(0.0, sum)
+                intersect_conic(&r, black_box(&s), 0).and_then(|h| refracted(r.direction, h.normal)).map_or(0.0, sum)
             });
     }
     let s = EvenAsphere { curvature: 0.02, conic_constant: -0.5, coefficients: vec![1e-4, -1e-6], semi_diameter_mm: 8.0 };
@@ -71,7 +77,7 @@ fn main() {
         &mut |r| {
             let r = ray(r);
             let s = black_box(&s);
-            let turned = s.intersect_ray(&r, 0.0).and_then(|(_, p)| s.normal(p.x, p.y)).and_then(|n| snell_refract(r.direction, n, 1.0, 1.5));
+            let turned = s.intersect_ray(&r, 0.0).and_then(|(_, p)| s.normal(p.x, p.y)).and_then(|n| refracted(r.direction, n));
             turned.map_or(0.0, sum)
         });
     let s = BiconicSurface { cx: 0.02, kx: -0.5, cy: 0.01, ky: 0.3, semi_diameter_mm: 8.0 };

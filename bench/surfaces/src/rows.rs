@@ -1,7 +1,7 @@
 //! A row of a table: ours beside the Rust text's, in one run on the same rays.
 //!
-//! A row goes through its rays, each call waiting for the last answer, as in a trace; then without waiting. The two sides take turns,
-//! PASSES times, and the least time of each counts. Their answers have to be the same bits.
+//! A row goes through its rays, origin and direction of each waiting for the last answer, as in a trace; then without waiting. The two
+//! sides take turns, PASSES times, and the least time of each counts. Their answers have to be the same bits.
 
 use std::hint::black_box;
 use std::time::Instant;
@@ -41,7 +41,8 @@ impl Sequence {
 fn waiting(f: Side, rays: &[Numbers]) {
     let mut last = 0.0;
     for r in rays {
-        last = f(&[r[0] + last * 0.0, r[1], r[2], r[3], r[4], r[5]]);
+        let zero = last * 0.0;
+        last = f(&[r[0] + zero, r[1], r[2], r[3] + zero, r[4], r[5]]);
     }
     black_box(last);
 }

@@ -2,9 +2,14 @@
 mod Roots
 mod Patterns
 mod Scale
+pub mod Plain
 pub mod Signs
+pub mod Finite
 mod Values
 mod Floats
 pub mod Nearest
 mod Rounds
-mod Exceeds
+pub mod Mirror
+pub mod Bounds
+pub mod Exceeds
+pub mod RootBounds

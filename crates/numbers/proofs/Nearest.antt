@@ -1,4 +1,4 @@
--- What `root` says, proved: `floor-is` of `Roots.antt`, and here that no binary64 lies nearer to √x than `root x` (`none-nearer`), that no tie arises (`no-tie`) and that only one value is nearest (`only-one`). Assumes nothing.
+-- What `root` says, proved: `floor-is` of `Roots.antt`, and here that no binary64 lies nearer to √x than `root x` (`none-nearer`), that no tie arises (`no-tie`), that only one value is nearest (`only-one`) and how near to x the square of `root x` is (`root-squared`). Assumes nothing.
 use mathlib.Core.Path.{_≡_, sym, ap, _∙_, subst}
 use mathlib.Core.Logic.{_⊎_, inl, inr, ⊎-elim}
 use Prim.Native.Nat.{ℕ, zero, suc, _+_, _-_, _*_, _/_, _%_, _^_, _≤_, _<_}
@@ -86,8 +86,16 @@ module _ (s c u n N : ℕ) (p : 0 < u) (e : N ≡ n * (u * u)) where
   under-edge : s < c * u → c * c ≤ 4 * n → s * s < 4 * N
   under-edge a b = omega (arith, mul-le-mul a a, mul-le-mul-right (u * u) b)
 
--- `Nearest` with no tie
+-- s and n differ by at most one part in 2 ^ 52 of s
+abbrev Close : ℕ → ℕ → Type 0
+Close s n = (s * 2 ^ 52 ≤ n * 2 ^ 52 + s) × (n * 2 ^ 52 ≤ s * 2 ^ 52 + s)
+
+close : (q n u : ℕ) → Near n q → 2 ^ 52 ≤ q → Close (q * u * (q * u)) (n * (u * u))
+close q n u (a, b) l = omega (arith, mul-le-mul-right (u * u) a, mul-le-mul-right (u * u) b, mul-le-mul-right (q * (u * u)) l)
+
+-- `Nearest` with no tie, and how near the root's square is
 record Nearer (x r : Float) : Type 0 where
+  square : Close (units r * units r) (units x * 2 ^ 1074)
   above-zero : AboveZero r
   from-below : (y : Float) → Number y → units y < units r → twiceMidpoint² y r < twiceRoot² x
   from-above : (y : Float) → Number y → units r < units y → twiceRoot² x < twiceMidpoint² y r
@@ -140,6 +148,7 @@ scaled x b m k u s =
     let n : 2 ^ 104 ≤ m * 2 ^ 52 = omega (arith, s .low) in
     subst (Nearer x) (root-odd m k q (s .low) (s .high) (s .exponent) h (units x) e)
     record {
+      square = rw (v, squares x (odd 53 false q k 1074) (m * 2 ^ 52) q k h n a e v) (close q (m * 2 ^ 52) (2 ^ k) h a);
       above-zero = f;
       from-below = below x (odd 53 false q k 1074) (m * 2 ^ 52) q k h n a e v (decLe (q * q) (m * 2 ^ 52));
       from-above = above x (odd 53 false q k 1074) (m * 2 ^ 52) q k h n a e v;
@@ -177,6 +186,9 @@ pub no-tie : NoTie
 no-tie x y h f d t =
     let n = nearer x h in
     ⊎-elim (λ l. ne-of-lt (n .from-below y f l) t) (λ l. ne-of-lt (n .from-above y f l) (sym t)) (apart (units y) (units (root x)) d)
+
+pub root-squared : (x : Float) → AboveZero x → Close (units (root x) * units (root x)) (units x * 2 ^ 1074)
+root-squared x h = nearer x h .square
 
 pub none-nearer : NoneNearer
 none-nearer x h =

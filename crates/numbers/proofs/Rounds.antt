@@ -1,11 +1,11 @@
 -- A number above zero is its units over 2 ^ 1074, and that fraction, or its own, rounds to it. Assumes nothing.
 use mathlib.Core.Path.{_≡_, refl, _∙_}
 use Prim.Native.Nat.{ℕ, suc, _-_, _*_, _/_, _^_, _<_}
-use native.Mathlib.Nat.{lt-of-lt-of-le, zero-lt-suc}
+use native.Mathlib.Nat.{lt-of-lt-of-le}
 use native.Mathlib.Omega.{arith}
 use mathlib.Core.Bool.{false}
 use lib.IntN.{ℤ}
-use lib.Dec.{T, ltb, lt→ltb}
+use lib.Dec.{T}
 use lib.Pow.{pow-pos, pow-mono, shl-lt}
 use lib.Ieee.{Float, fin, binary64, up, down, fits, round, toBits}
 use lib.Ieee.Exact.{HasValue, round-exact}
@@ -15,6 +15,7 @@ use lib.Ieee.Scale.{round-same}
 use Rattle.numbers.specs.Sqrt.{units, AboveZero}
 use Rattle.numbers.specs.Parts.{patternUnits}
 use Rattle.numbers.proofs.Nearest.{same-units}
+use Rattle.numbers.proofs.Plain.{some}
 use Rattle.numbers.proofs.Values.{bits-lt, units-of, units-pattern, value-pattern}
 
 bits : (x : Float) → AboveZero x → toBits binary64 x < 0x7ff0_0000_0000_0000
@@ -36,9 +37,6 @@ itself x h =
     let v : HasValue r false (units x) (2 ^ 1074) = rw (units-pattern x (h .0) (bits x h)) (exact (toBits binary64 x) (bits x h)) in
     let p = positive-of-value r (units x) (2 ^ 1074) v (value-pos x (units x) (2 ^ 1074) (h .1) (pow-pos 1074) (value x h)) in
     same-units r x (round-fits binary64 false (units x) (2 ^ 1074), p) h (units-of r (units x) v)
-
-pub some : (m : ℕ) → T (ltb 0 (suc m))
-some m = lt→ltb 0 (suc m) (zero-lt-suc m)
 
 pub own : (m : ℕ) (e : ℤ) → T (fits binary64 (fin false (suc m) e)) → round binary64 false (suc m * up e) (down e) ≡ fin false (suc m) e
 own m e h =

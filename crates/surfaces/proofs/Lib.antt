@@ -4,6 +4,7 @@ pub mod Refusals
 pub mod Terms
 pub mod Again
 pub mod Shared
+mod Sheet
 pub mod Passes
 pub mod Stops
 pub mod Unique

@@ -1,5 +1,6 @@
 -- Conic surfaces: constructors, radius, sag, normal, and where a ray meets one. Definitions only.
-use mathlib.Core.Bool.{Bool, not, _&&_, _||_}
+use mathlib.Core.Path.{_≡_}
+use mathlib.Core.Bool.{Bool, true, false, not, _&&_, _||_}
 use mathlib.Core.List.{List, [], _∷_}
 use lib.Ieee.{Float, neg, isNan}
 use lib.Ieee.Scale.{finite}
@@ -100,6 +101,14 @@ unfoldable pub onSheet : ConicSurface → Vec3 → Float → Bool
 onSheet s p r =
     let z = conicSag r (s .curvature) (s .conic) in
     done z && (magnitude (p .z -₆₄ s .vertex -₆₄ z .value) <₆₄ 1e-4)
+
+-- What a test without roots shows, for b = (1 + k) * c * c: the sag at r is by the formula, and z is within 1e-4 of it.
+pub record Near (z c b r : Float) : Type 0 where
+  pub curved : finite c ≡ true
+  pub placed : finite r ≡ true
+  pub beside : (magnitude r <₆₄ 1e-15) ≡ false
+  pub inside : (1f -₆₄ b *₆₄ (r *₆₄ r) <₆₄ 0f) ≡ false
+  pub close : (magnitude (z -₆₄ (c *₆₄ (r *₆₄ r)) /₆₄ (1f +₆₄ root (1f -₆₄ b *₆₄ (r *₆₄ r)))) <₆₄ 1e-4) ≡ true
 
 -- the first of the candidates that is on the sheet decides
 unfoldable pub firstOn : Ray → ConicSurface → List Float → Told Landing

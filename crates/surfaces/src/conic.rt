@@ -1,11 +1,13 @@
 // Conic surfaces: constructors, radius, sag, normal, and where a ray meets one.
 ghost use mathlib.Core.Path.{_≡_};
+ghost use mathlib.Core.Bool.{true};
 ghost use mathlib.Core.List.{[], _∷_};
+ghost use lib.Ieee.{neg};
 ghost use Rattle.numbers.specs.Arithmetic.{0f};
 ghost use Rattle.numbers.specs.Sqrt.{root};
 ghost use Rattle.surfaces.specs.Types.{noHit, hitFinite};
 ghost use Rattle.surfaces.specs.Told.{checked9, toldSag, toldDirection, toldCrossing, toldMeet, toldConic};
-ghost use Rattle.surfaces.specs.Conic.{fromRadius, fromCurvature, curvatureOf, withVertex, radiusOf, conicSag, conicSagAnswer, gradientNormal, conicNormal, conicNormalAnswer, conicFinite, landedWithin, planeCrossing, onSheet, listed, kept, firstRoot, secondRoot, ascending, firstOn, quadraticOf, signOf, curvedCrossing, conicCrossing, normalAt, hitAt, meetRule, meetAnswer};
+ghost use Rattle.surfaces.specs.Conic.{fromRadius, fromCurvature, curvatureOf, withVertex, radiusOf, conicSag, conicSagAnswer, gradientNormal, conicNormal, conicNormalAnswer, conicFinite, landedWithin, planeCrossing, onSheet, Near, listed, kept, firstRoot, secondRoot, ascending, firstOn, quadraticOf, signOf, curvedCrossing, conicCrossing, normalAt, hitAt, meetRule, meetAnswer};
 use crate::refusal::Crossing;
 use crate::refusal::Direction;
 use crate::refusal::Refusal;
@@ -236,10 +238,59 @@ fn plane_crossing(ray: Ray, s: ConicSurface) -> Crossing
     landed_within(t, p, p.x * p.x + p.y * p.y, s.semi)
 }
 
+// Whether z is surely within 1e-4 of the sag at r, the root of sq, for a curvature c above 0 and b = (1 + k) * c * c. No root is worked out: r * r lies
+// beside sq, the radicand's root beside `guess` if the squares say so, and the sag between those that these bounds give. Other kinds of c and b, and
+// numbers near 0 or beyond 1e9, are left to the rule. 1e-9 and 1e-7 are wide for what rounding does and narrow beside 1e-4.
+fn surely_near(z: f64, c: f64, b: f64, sq: f64, guess: f64) -> bool
+    ensures { λ t. ⌜ (t ≡ true → Near z c b (root sq) × Near (neg z) (neg c) b (root sq)) ⌝ }
+{
+    let low = sq * 0.999999999;
+    let high = sq * 1.000000001;
+    let least = guess - 1e-7;
+    let most = guess + 1e-7;
+    let shallow = (c * low) / (1.0 + most);
+    let deep = (c * high) / (1.0 + least);
+    let above = (0.0 < z)
+        & (0.0 < c)
+        & (0.0 < b)
+        & (1e-15 * 1e-15 < sq)
+        & (0.0 < least)
+        & (least < most);
+    let small = (high < 1e9)
+        & (c * high < 1e9)
+        & (b * high < 1.0)
+        & (1.0 + most < 4.0)
+        & (deep < 1e9);
+    let rooted = (least * least < 1.0 - b * high) & (1.0 - b * low < most * most);
+    above & small & rooted & (z - shallow < 1e-4) & (deep - z < 1e-4)
+}
+
+// Whether a point surely lies on the sheet through the vertex. There the radicand's root is 1 - (1 + k) * c * z.
+fn surely_on_sheet(s: ConicSurface, p: Vec3, sq: f64) -> bool
+    ensures { λ t. ⌜ (t ≡ true → onSheet s p (root sq) ≡ true) ⌝ }
+{
+    let c = s.curvature;
+    let k = s.conic;
+    if !is_finite(k) | (abs(c) < 1e-15) {
+        return false;
+    }
+    let z = p.z - s.vertex;
+    let b = (1.0 + k) * c * c;
+    let guess = 1.0 - (1.0 + k) * c * z;
+    if c < 0.0 {
+        surely_near(-z, -c, b, sq, guess)
+    } else {
+        surely_near(z, c, b, sq, guess)
+    }
+}
+
 // Whether a point lies on the sheet through the vertex.
 fn on_sheet(s: ConicSurface, p: Vec3, sq: f64) -> bool
     ensures { λ b. ⌜ b ≡ onSheet s p (root sq) ⌝ }
 {
+    if surely_on_sheet(s, p, sq) {
+        return true;
+    }
     match raw_sag(sqrt(sq), s.curvature, s.conic, sq) {
         Sag::At(z) => abs(p.z - s.vertex - z) < 1e-4,
         Sag::Refused(_) => false,

@@ -1,4 +1,5 @@
 -- What is returned follows from the tests and the calls on the way, in their order. Assumes nothing.
+use mathlib.Core.Path.{sym}
 use borrow.Author.Needs.{needs}
 use Rattle.surfaces.proofs.Refusals.{never-done}
 use lib.Ieee.{ofBits}
@@ -12,6 +13,8 @@ unfolding onSheet decimal ofBits
 on-sheet-spec =
     tie.close
     (tie.spec
+    (λ c κs. tt)
+    (λ c. sym (c .before .surely-on-sheet .ensures (c .if1 .taken)))
     (λ c κs. tt)
     (λ c κs. tt)
     (λ c. search needs)

@@ -1,5 +1,4 @@
 -- The arrays hold the state, whatever the buffer. Assumes nothing.
-use borrow.Author.Needs.{needs}
 use Rattle.station.proofs.tell.Statement.{statement}
 use Rattle.station.proofs.tell.Tie as tie
 

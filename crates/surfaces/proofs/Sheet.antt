@@ -2,7 +2,7 @@
 use mathlib.Core.Path.{_≡_, refl, ap}
 use Prim.Native.Nat.{_+_, _-_, _*_, _^_, _≤_, _<_}
 use native.Mathlib.Nat.{le-of-lt}
-use mathlib.Core.Bool.{Bool, true, false, not, _&&_, _||_, true≢false, and-eq-true-iff, Bool·not-not}
+use mathlib.Core.Bool.{Bool, true, false, not, _&&_, _||_, true≢false, Bool·not-not}
 use lib.Dec.{T, lit≤}
 use lib.Ieee.{Float, nan, inf, fin, binary64, ofBits, fits, neg, mul, add}
 use lib.Ieee.Fits.{add-fits, sub-fits}
@@ -19,9 +19,10 @@ use Rattle.numbers.proofs.Mirror.{mul-neg, div-neg, sub-neg}
 use Rattle.numbers.proofs.Bounds.{exact, grows, product, total, quotient, rest, near}
 use Rattle.numbers.proofs.Exceeds.{no-lower}
 use Rattle.numbers.proofs.RootBounds.{root-bounded, square-bounded}
-use Rattle.surfaces.specs.Conic.{Near, conicSag, onSheet}
+use Rattle.surfaces.specs.Conic.{SagNear, conicSag, onSheet}
 use Rattle.surfaces.specs.declared.types.Vec3.{Vec3}
 use Rattle.surfaces.specs.declared.conic.ConicSurface.{ConicSurface}
+use Rattle.surfaces.proofs.Choice.{both}
 
 -- ---- the numbers that the test has
 
@@ -56,9 +57,6 @@ more = lit≤ tt
 
 -- ---- the law
 
-both : {a b : Bool} → (a && b) ≡ true → (a ≡ true) × (b ≡ true)
-both {a} {b} h = and-eq-true-iff a b .0 h
-
 module _ (z c b sq guess : Float) where
   abbrev least : Float
   least = guess -₆₄ 1e-7
@@ -78,23 +76,23 @@ module _ (z c b sq guess : Float) where
       let rooted = (least *₆₄ least <₆₄ 1f -₆₄ b *₆₄ high) && (1f -₆₄ b *₆₄ low <₆₄ most *₆₄ most) in
       above && small && rooted && (z -₆₄ shallow <₆₄ 1e-4) && (deep -₆₄ z <₆₄ 1e-4)
 
-  pub sure-near : T (fits binary64 sq) → sure ≡ true → Near z c b (root sq) × Near (neg z) (neg c) b (root sq)
+  pub sure-near : T (fits binary64 sq) → sure ≡ true → SagNear z c b (root sq) × SagNear (neg z) (neg c) b (root sq)
   unfolding decimal ofBits
   sure-near f h =
-      let (h4, deep) = both h in
-      let (h3, shallow) = both h4 in
-      let (h2, rooted) = both h3 in
-      let (above, small) = both h2 in
-      let (a5, ordered) = both above in
-      let (a4, least+) = both a5 in
-      let (a3, sq+) = both a4 in
-      let (a2, b+) = both a3 in
-      let (z+, c+) = both a2 in
-      let (s4, deep<) = both small in
-      let (s3, most<) = both s4 in
-      let (s2, product<) = both s3 in
-      let (high<, depth<) = both s2 in
-      let (least², most²) = both rooted in
+      let (h4, deep) = both _ _ h in
+      let (h3, shallow) = both _ _ h4 in
+      let (h2, rooted) = both _ _ h3 in
+      let (above, small) = both _ _ h2 in
+      let (a5, ordered) = both _ _ above in
+      let (a4, least+) = both _ _ a5 in
+      let (a3, sq+) = both _ _ a4 in
+      let (a2, b+) = both _ _ a3 in
+      let (z+, c+) = both _ _ a2 in
+      let (s4, deep<) = both _ _ small in
+      let (s3, most<) = both _ _ s4 in
+      let (s2, product<) = both _ _ s3 in
+      let (high<, depth<) = both _ _ s2 in
+      let (least², most²) = both _ _ rooted in
       let r = root sq in
       let zero : Plain 0f = plain _ _ in
       let unit : Plain 1f = plain _ _ in
@@ -114,7 +112,7 @@ module _ (z c b sq guess : Float) where
       let S = quotient N D 1e9 d deep< in
       let Z = of-positive z (finite-minuend 1e-4 (exceeding z zero z+) (S .low) shallow) in
       let P = of-positive r (none-nearer sq X .above-zero .1) in
-      let n : Near z c b r = record { curved = plain-finite C; placed = plain-finite P; beside = rw (plain-magnitude P) (no-lower sq 1e-15 X tiny sq+); inside = not-negative (R .self); close = near Z S 1e-4 shallow deep } in (
+      let n : SagNear z c b r = record { curved = plain-finite C; placed = plain-finite P; beside = rw (plain-magnitude P) (no-lower sq 1e-15 X tiny sq+); inside = not-negative (R .self); close = near Z S 1e-4 shallow deep } in (
         n,
         record {
           curved = minus-finite C;
@@ -133,7 +131,7 @@ neither true true h = absurd (true≢false h)
 neither false b h = absurd (true≢false h)
 
 pub near-on-sheet : (s : ConicSurface) (p : Vec3) (r : Float) → (not (finite (s .conic)) || (magnitude (s .curvature) <₆₄ 1e-15)) ≡ false →
-    Near (p .z -₆₄ s .vertex) (s .curvature) ((1f +₆₄ s .conic) *₆₄ s .curvature *₆₄ s .curvature) r → onSheet s p r ≡ true
+    SagNear (p .z -₆₄ s .vertex) (s .curvature) ((1f +₆₄ s .conic) *₆₄ s .curvature *₆₄ s .curvature) r → onSheet s p r ≡ true
 unfolding onSheet conicSag
 near-on-sheet s p r h n = let (k, c) = neither (finite (s .conic)) (magnitude (s .curvature) <₆₄ 1e-15) h in rw (n .placed, n .curved, k, c, n .beside, n .inside, n .close)
 

@@ -103,7 +103,7 @@ onSheet s p r =
     done z && (magnitude (p .z -₆₄ s .vertex -₆₄ z .value) <₆₄ 1e-4)
 
 -- What a test without roots shows, for b = (1 + k) * c * c: the sag at r is by the formula, and z is within 1e-4 of it.
-pub record Near (z c b r : Float) : Type 0 where
+pub record SagNear (z c b r : Float) : Type 0 where
   pub curved : finite c ≡ true
   pub placed : finite r ≡ true
   pub beside : (magnitude r <₆₄ 1e-15) ≡ false

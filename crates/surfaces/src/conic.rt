@@ -7,7 +7,7 @@ ghost use Rattle.numbers.specs.Arithmetic.{0f};
 ghost use Rattle.numbers.specs.Sqrt.{root};
 ghost use Rattle.surfaces.specs.Types.{noHit, hitFinite};
 ghost use Rattle.surfaces.specs.Told.{checked9, toldSag, toldDirection, toldCrossing, toldMeet, toldConic};
-ghost use Rattle.surfaces.specs.Conic.{fromRadius, fromCurvature, curvatureOf, withVertex, radiusOf, conicSag, conicSagAnswer, gradientNormal, conicNormal, conicNormalAnswer, conicFinite, landedWithin, planeCrossing, onSheet, Near, listed, kept, firstRoot, secondRoot, ascending, firstOn, quadraticOf, signOf, curvedCrossing, conicCrossing, normalAt, hitAt, meetRule, meetAnswer};
+ghost use Rattle.surfaces.specs.Conic.{fromRadius, fromCurvature, curvatureOf, withVertex, radiusOf, conicSag, conicSagAnswer, gradientNormal, conicNormal, conicNormalAnswer, conicFinite, landedWithin, planeCrossing, onSheet, SagNear, listed, kept, firstRoot, secondRoot, ascending, firstOn, quadraticOf, signOf, curvedCrossing, conicCrossing, normalAt, hitAt, meetRule, meetAnswer};
 use crate::refusal::Crossing;
 use crate::refusal::Direction;
 use crate::refusal::Refusal;
@@ -242,7 +242,7 @@ fn plane_crossing(ray: Ray, s: ConicSurface) -> Crossing
 // beside sq, the radicand's root beside `guess` if the squares say so, and the sag between those that these bounds give. Other kinds of c and b, and
 // numbers near 0 or beyond 1e9, are left to the rule. 1e-9 and 1e-7 are wide for what rounding does and narrow beside 1e-4.
 fn surely_near(z: f64, c: f64, b: f64, sq: f64, guess: f64) -> bool
-    ensures { λ t. ⌜ (t ≡ true → Near z c b (root sq) × Near (neg z) (neg c) b (root sq)) ⌝ }
+    ensures { λ t. ⌜ (t ≡ true → SagNear z c b (root sq) × SagNear (neg z) (neg c) b (root sq)) ⌝ }
 {
     let low = sq * 0.999999999;
     let high = sq * 1.000000001;

@@ -2,12 +2,11 @@
 use mathlib.Core.Path.{_≡_, refl}
 use Prim.Native.Nat.{ℕ, suc, _*_, _≤_, _<_}
 use native.Mathlib.Nat.{le-of-eq, le-of-lt, lt-of-not-le, not-le-of-lt, zero-lt-suc}
-use native.Mathlib.Omega.{arith}
 use mathlib.Core.Bool.{Bool, true, false, _&&_, _||_}
 use borrow.Author.Tests.{ltb-true, ltb-false, lt-ltb, le-ltb}
 use lib.IntN.{ℤ}
 use lib.Dec.{T, ltb, eqb, ltb→lt, lt→ltb, eqb→eq}
-use lib.Ieee.{Float, nan, inf, fin, binary64, ofBits, up, down, neg, lt, le}
+use lib.Ieee.{Float, nan, inf, fin, up, down, neg, lt, le}
 use lib.Ieee.Scale.{finite}
 use lib.Ieee.Positive.{num, den, positive, den-pos, first-pos, through}
 use Rattle.numbers.specs.Basic.{magnitude}
@@ -25,10 +24,6 @@ minus-finite (plain m e) = refl
 pub plain-magnitude : {x : Float} → Plain x → magnitude x ≡ x
 unfolding magnitude
 plain-magnitude (plain m e) = refl
-
-pub not-negative : {x : Float} → Plain x → lt x (ofBits binary64 0) ≡ false
-unfolding lt ofBits
-not-negative (plain m e) = le-ltb (m * up e * 1) (0 * 1 * down e) (omega arith)
 
 -- ---- the order
 

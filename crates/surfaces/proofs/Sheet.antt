@@ -2,17 +2,19 @@
 use mathlib.Core.Path.{_≡_, refl, ap}
 use Prim.Native.Nat.{_+_, _-_, _*_, _^_, _≤_, _<_}
 use native.Mathlib.Nat.{le-of-lt}
+use native.Mathlib.Omega.{arith}
 use mathlib.Core.Bool.{Bool, true, false, not, _&&_, _||_, true≢false, Bool·not-not}
+use borrow.Author.Tests.{le-ltb}
 use lib.Dec.{T, lit≤}
-use lib.Ieee.{Float, nan, inf, fin, binary64, ofBits, fits, neg, mul, add}
+use lib.Ieee.{Float, nan, inf, fin, binary64, up, down, fits, neg, mul, add, lt}
 use lib.Ieee.Fits.{add-fits, sub-fits}
 use lib.Ieee.Scale.{finite}
-use lib.Ieee.Positive.{num, den}
+use lib.Ieee.Positive.{num, den, positive}
 use Rattle.numbers.specs.Arithmetic.{_+₆₄_, _-₆₄_, _*₆₄_, _/₆₄_, _<₆₄_, decimal, 0f, 1f, 4f, 1e-4, 1e-7, 1e-15}
 use Rattle.numbers.specs.Basic.{magnitude}
 use Rattle.numbers.specs.Sqrt.{root, AboveZero}
 use Rattle.numbers.proofs.Nearest.{none-nearer}
-use Rattle.numbers.proofs.Plain.{Plain, plain, plain-finite, minus-finite, plain-magnitude, not-negative, below, of-positive}
+use Rattle.numbers.proofs.Plain.{Plain, plain, plain-finite, minus-finite, plain-magnitude, below, of-positive}
 use Rattle.numbers.proofs.Signs.{exceeding}
 use Rattle.numbers.proofs.Finite.{finite-number, finite-factor, finite-minuend, finite-summand}
 use Rattle.numbers.proofs.Mirror.{mul-neg, div-neg, sub-neg}
@@ -35,6 +37,18 @@ abbrev 1+1e-9 : Float
 abbrev 1e9 : Float
 1e9 = decimal 1000000000 0
 
+zero : Plain 0f
+unfolding decimal
+zero = plain _ _
+
+unit : Plain 1f
+unfolding decimal
+unit = plain _ _
+
+near-one : T (positive 1-1e-9) × T (positive 1+1e-9)
+unfolding decimal
+near-one = (tt, tt)
+
 one : 0 < num (1f +₆₄ 0f)
 unfolding decimal add
 one = lit≤ tt
@@ -54,6 +68,10 @@ less = lit≤ tt
 more : den 1+1e-9 * 2 ^ 52 ≤ num 1+1e-9 * (2 ^ 52 - 1)
 unfolding decimal
 more = lit≤ tt
+
+not-outside : {x : Float} → Plain x → (x <₆₄ 0f) ≡ false
+unfolding lt decimal
+not-outside (plain m e) = le-ltb (m * up e * 1) (0 * 1 * down e) (omega arith)
 
 -- ---- the law
 
@@ -77,7 +95,6 @@ module _ (z c b sq guess : Float) where
       above && small && rooted && (z -₆₄ shallow <₆₄ 1e-4) && (deep -₆₄ z <₆₄ 1e-4)
 
   pub sure-near : T (fits binary64 sq) → sure ≡ true → SagNear z c b (root sq) × SagNear (neg z) (neg c) b (root sq)
-  unfolding decimal ofBits
   sure-near f h =
       let (h4, deep) = both _ _ h in
       let (h3, shallow) = both _ _ h4 in
@@ -94,10 +111,8 @@ module _ (z c b sq guess : Float) where
       let (high<, depth<) = both _ _ s2 in
       let (least², most²) = both _ _ rooted in
       let r = root sq in
-      let zero : Plain 0f = plain _ _ in
-      let unit : Plain 1f = plain _ _ in
-      let X : AboveZero sq = (f, finite-factor 1e9 (exceeding sq tiny² sq+) (plain _ _) high<) in
-      let W = square-bounded sq 1-1e-9 1+1e-9 X tt tt 1e9 less more high< in
+      let X : AboveZero sq = (f, finite-factor 1e9 (exceeding sq tiny² sq+) (of-positive 1+1e-9 (near-one .1)) high<) in
+      let W = square-bounded sq 1-1e-9 1+1e-9 X (near-one .0) (near-one .1) 1e9 less more high< in
       let C = of-positive c (finite-factor 1e9 (exceeding c zero c+) (W .high) depth<) in
       let B = of-positive b (finite-factor 1f (exceeding b zero b+) (W .high) product<) in
       let L : AboveZero least = (sub-fits binary64 guess 1e-7, finite-number most (exceeding least zero least+) ordered) in
@@ -110,9 +125,9 @@ module _ (z c b sq guess : Float) where
       let d = grows (1f +₆₄ 0f) (1f +₆₄ least) (E .from) one in
       let N = product (exact C) W 1e9 depth< in
       let S = quotient N D 1e9 d deep< in
-      let Z = of-positive z (finite-minuend 1e-4 (exceeding z zero z+) (S .low) shallow) in
+      let Z = of-positive z (finite-minuend _ (exceeding z zero z+) (S .low) shallow) in
       let P = of-positive r (none-nearer sq X .above-zero .1) in
-      let n : SagNear z c b r = record { curved = plain-finite C; placed = plain-finite P; beside = rw (plain-magnitude P) (no-lower sq 1e-15 X tiny sq+); inside = not-negative (R .self); close = near Z S 1e-4 shallow deep } in (
+      let n : SagNear z c b r = record { curved = plain-finite C; placed = plain-finite P; beside = rw (plain-magnitude P) (no-lower sq 1e-15 X tiny sq+); inside = not-outside (R .self); close = near Z S _ shallow deep } in (
         n,
         record {
           curved = minus-finite C;

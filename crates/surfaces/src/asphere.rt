@@ -178,14 +178,14 @@ fn even_slope_from(c: f64, a: Coefficients, r: f64, s: f64) -> Number
     }
 }
 
-// The Rust's EvenAsphere::radial_derivative.
-fn even_slope(c: f64, k: f64, a: Coefficients, r: f64) -> Number
+// The Rust's EvenAsphere::radial_derivative, with a guess at r * r.
+fn even_slope(c: f64, k: f64, a: Coefficients, r: f64, near: f64) -> Number
     ensures { λ d. ⌜ toldNumber d ≡ evenSlope c k a r ⌝ }
 {
     if !is_finite(r) | (r < 0.0) {
         return Number::Refused(Refusal::InvalidParameter);
     }
-    match base_root(c, k, r * r, r * r) {
+    match base_root(c, k, r * r, near) {
         EdgeRoot::Is(s) => even_slope_from(c, a, r, s),
         EdgeRoot::Outside => Number::Refused(Refusal::GeometryOutsideAperture),
     }
@@ -248,11 +248,12 @@ fn even_facing(dx: f64, dy: f64) -> Direction
 pub(crate) fn even_normal(c: f64, k: f64, a: Coefficients, x: f64, y: f64) -> Direction
     ensures { λ v. ⌜ toldDirection v ≡ evenNormal c k a x y ⌝ }
 {
-    let r = sqrt(x * x + y * y);
+    let sq = x * x + y * y;
+    let r = sqrt(sq);
     if r < 1e-15 {
         return Direction::To(backwards());
     }
-    match even_slope(c, k, a, r) {
+    match even_slope(c, k, a, r, sq) {
         Number::Is(d) => even_facing(d * (x / r), d * (y / r)),
         Number::Refused(e) => Direction::Refused(e),
     }
@@ -313,7 +314,7 @@ impl EvenAsphere {
             return Number::Refused(Refusal::InvalidParameter);
         }
         let a = self.coefficients;
-        checked_number(even_slope(self.curvature, self.conic, a, r))
+        checked_number(even_slope(self.curvature, self.conic, a, r, r * r))
     }
 
     pub fn normal(self, x: f64, y: f64) -> Direction

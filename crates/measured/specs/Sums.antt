@@ -2,7 +2,6 @@
 use mathlib.Core.List.{[], _∷_}
 use lib.Ieee.{Float}
 use Rattle.numbers.specs.Arithmetic.{_+₆₄_, if_then_else_, 0f}
-use Rattle.surfaces.specs.Types.{vec}
 use Rattle.surfaces.specs.Told.{Told, done}
 use Rattle.surfaces.specs.Conic.{meetAnswer}
 use Rattle.surfaces.specs.Snell.{refractAnswer}
@@ -15,9 +14,6 @@ use Rattle.surfaces.specs.declared.conic.ConicSurface.{ConicSurface}
 use Rattle.surfaces.specs.declared.asphere.EvenAsphere.{EvenAsphere}
 use Rattle.surfaces.specs.declared.biconic.BiconicSurface.{BiconicSurface}
 use Rattle.surfaces.specs.declared.biconic.ToroidalSurface.{ToroidalSurface}
-
-unfoldable pub rayOf : Float → Float → Float → Float → Float → Float → Ray
-rayOf ox oy oz dx dy dz = record { origin = vec ox oy oz; direction = vec dx dy dz }
 
 abbrev pub evenOf : Float → Float → Float → Float → Float → EvenAsphere
 evenOf c k semi a b = record { curvature = c; conic = k; semi = semi; coefficients = record { count = 2; values = a ∷ b ∷ 0f ∷ 0f ∷ 0f ∷ 0f ∷ 0f ∷ 0f ∷ [] } }

@@ -1,7 +1,6 @@
 // The functions that bench/ measures, under names that C can link. No part of the product.
 mod surfaced;
 
-pub use surfaced::ray_of;
 ghost use mathlib.Core.Path.{_≡_};
 ghost use lib.Ieee.{isNan};
 ghost use lib.Ieee.Scale.{finite};

@@ -1,6 +1,7 @@
 // Intersections and refractions, each told as the sum of its numbers, so that all of them are worked out.
 ghost use mathlib.Core.Path.{_≡_};
-ghost use Rattle.measured.specs.Sums.{rayOf, evenOf, biconicOf, toroidOf, sumVec, sumLanding, sumHit, conicThen, evenThen};
+ghost use Rattle.measured.specs.Sums.{evenOf, biconicOf, toroidOf, sumVec, sumLanding, sumHit, conicThen, evenThen};
+ghost use Rattle.surfaces.specs.Types.{rayOf};
 ghost use Rattle.surfaces.specs.Told.{toldCrossing, toldDirection};
 ghost use Rattle.surfaces.specs.Conic.{conicSurface, meetAnswer};
 ghost use Rattle.surfaces.specs.Asphere.{evenCrossingAnswer};
@@ -12,28 +13,10 @@ use surfaces::Crossing;
 use surfaces::Direction;
 use surfaces::EvenAsphere;
 use surfaces::Meet;
-use surfaces::Ray;
 use surfaces::ToroidalSurface;
-use surfaces::Vec3;
 use surfaces::intersect_conic;
+use surfaces::ray_of;
 use surfaces::snell_refract;
-
-pub fn ray_of(ox: f64, oy: f64, oz: f64, dx: f64, dy: f64, dz: f64) -> Ray
-    ensures { λ r. ⌜ r ≡ rayOf ox oy oz dx dy dz ⌝ }
-{
-    Ray {
-        origin: Vec3 {
-            x: ox,
-            y: oy,
-            z: oz,
-        },
-        direction: Vec3 {
-            x: dx,
-            y: dy,
-            z: dz,
-        },
-    }
-}
 
 fn conic_of(vertex: f64, c: f64, k: f64, semi: f64) -> ConicSurface
     ensures { λ r. ⌜ r ≡ conicSurface vertex c k semi ⌝ }

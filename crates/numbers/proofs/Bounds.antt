@@ -1,18 +1,17 @@
 -- Bounds that arithmetic keeps: operands between bounds, all plain, have a result between those of the bounds, since rounding keeps order. Assumes nothing.
-use mathlib.Core.Path.{_≡_, refl, sym, _∙_, subst}
-use Prim.Native.Nat.{ℕ, zero, suc, _+_, _-_, _*_, _^_, _≤_, _<_}
+use mathlib.Core.Path.{_≡_, refl, sym, _∙_}
+use Prim.Native.Nat.{ℕ, zero, suc, _+_, _-_, _*_, _≤_, _<_}
 use native.Mathlib.Nat.{le-of-lt, le-refl, lt-of-lt-of-le, mul-comm, mul-le-mul, mul-le-mul-right, mul-pos, mul-sub}
 use native.Mathlib.Omega.{arith}
-use mathlib.Core.Bool.{Bool, true, false, cond, false≢true}
-use lib.Dec.{T, ltb, eqb·suc-zero}
-use lib.Ieee.{Float, inf, binary64, up, down, odd, units, round, sum, add, sub, mul, div, lt, le}
-use lib.Ieee.Fits.{round-is}
+use mathlib.Core.Bool.{Bool, true, false, false≢true}
+use lib.Dec.{T, eqb·suc-zero}
+use lib.Ieee.{Float, binary64, up, down, round, sum, add, sub, mul, div, lt, le}
 use lib.Ieee.Order.{round-mono}
 use lib.Ieee.Positive.{num, den, den-pos, first-pos}
 use Rattle.numbers.specs.Basic.{magnitude}
 use Rattle.numbers.proofs.Plain.{Plain, plain, AtMost, chain, below, at-most, not-below, of-le, at-most-below}
 use Rattle.numbers.proofs.Finite.{top}
-use Rattle.numbers.proofs.Mirror.{round-magnitude}
+use Rattle.numbers.proofs.Mirror.{Rounded, number, overflow, rounded, round-magnitude}
 
 pub record Bounded (lo x hi : Float) : Type 0 where
   pub low : Plain lo
@@ -28,23 +27,6 @@ pub grows : (x y : Float) → AtMost x y → 0 < num x → 0 < num y
 grows x y h p = first-pos (num y) (den x) (lt-of-lt-of-le (mul-pos p (den-pos y)) h)
 
 -- ---- rounding
-
-data Rounded : Float → Type 0 where
-  number : {x : Float} → Plain x → Rounded x
-  overflow : Rounded (inf false)
-
-shape : (b : Bool) (q k : ℕ) → Rounded (cond b (odd 54 false q k 1074) (inf false))
-unfolding odd
-shape false q k = overflow
-shape true zero k = number (plain _ _)
-shape true (suc q) k = number (plain _ _)
-
-in-units : (q k : ℕ) → Rounded (units binary64 false q k)
-unfolding units
-in-units q k = shape (ltb (q * 2 ^ k) (2 ^ 2098)) q k
-
-rounded : (a b : ℕ) → Rounded (round binary64 false a b)
-rounded a b = subst Rounded (sym (round-is binary64 false a b)) (in-units _ _)
 
 held : {x : Float} (z : Float) → Rounded x → lt x z ≡ true → Plain x
 held z (number p) h = p

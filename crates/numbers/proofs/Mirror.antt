@@ -1,42 +1,58 @@
 -- Arithmetic has a mirror image: operands with other signs have results with other signs, and are as far apart. Assumes nothing.
-use mathlib.Core.Path.{_≡_, refl, sym, _∙_}
+use mathlib.Core.Path.{_≡_, refl, sym, _∙_, ap}
 use Prim.Native.Nat.{ℕ, zero, suc, _-_, _*_, _^_, _<_}
 use native.Mathlib.Omega.{arith}
-use mathlib.Core.Bool.{Bool, true, false, cond}
+use mathlib.Core.Bool.{Bool, true, false, cond, Bool·not-not}
 use lib.Dec.{ltb, eqb·suc-zero}
-use lib.Ieee.{Float, inf, binary64, up, down, odd, units, round, neg, sum, sub, mul, div}
+use lib.Ieee.{Float, nan, inf, fin, binary64, up, down, odd, units, round, neg, sum, sub, mul, div}
 use lib.Ieee.Fits.{round-is}
 use lib.Ieee.Positive.{num}
 use Rattle.numbers.specs.Basic.{magnitude}
 use Rattle.numbers.proofs.Plain.{Plain, plain}
 
+pub neg-twice : (x : Float) → neg (neg x) ≡ x
+unfolding neg
+neg-twice nan = refl
+neg-twice (inf s) = ap inf (Bool·not-not s)
+neg-twice (fin s m e) = ap (λ (t : Bool). fin t m e) (Bool·not-not s)
+
 -- ---- what rounding does with a sign
 
-odd-magnitude : (b s : Bool) (q k : ℕ) → magnitude (cond b (odd 54 s q k 1074) (inf s)) ≡ cond b (odd 54 false q k 1074) (inf false)
-unfolding magnitude odd
-odd-magnitude true s zero k = refl
-odd-magnitude true s (suc q) k = refl
-odd-magnitude false s q k = refl
+pub data Rounded : Float → Type 0 where
+  number : {x : Float} → Plain x → Rounded x
+  overflow : Rounded (inf false)
 
-units-magnitude : (s : Bool) (q k : ℕ) → magnitude (units binary64 s q k) ≡ units binary64 false q k
-unfolding units
-units-magnitude s q k = odd-magnitude (ltb (q * 2 ^ k) (2 ^ 2098)) s q k
+-- a number or infinity, and with a minus sign its mirror image
+abbrev Signed : Float → Float → Type 0
+Signed x y = Rounded x × (y ≡ neg x)
 
-pub round-magnitude : (s : Bool) (a b : ℕ) → magnitude (round binary64 s a b) ≡ round binary64 false a b
-round-magnitude s a b = simp round-is (units-magnitude s _ _)
-
-odd-neg : (b : Bool) (q k : ℕ) → cond b (odd 54 true q k 1074) (inf true) ≡ neg (cond b (odd 54 false q k 1074) (inf false))
+odd-signed : (b : Bool) (q k : ℕ) → Signed (cond b (odd 54 false q k 1074) (inf false)) (cond b (odd 54 true q k 1074) (inf true))
 unfolding neg odd
-odd-neg true zero k = refl
-odd-neg true (suc q) k = refl
-odd-neg false q k = refl
+odd-signed true zero k = (number (plain _ _), refl)
+odd-signed true (suc q) k = (number (plain _ _), refl)
+odd-signed false q k = (overflow, refl)
 
-units-neg : (q k : ℕ) → units binary64 true q k ≡ neg (units binary64 false q k)
+units-signed : (q k : ℕ) → Signed (units binary64 false q k) (units binary64 true q k)
 unfolding units
-units-neg q k = odd-neg (ltb (q * 2 ^ k) (2 ^ 2098)) q k
+units-signed q k = odd-signed (ltb (q * 2 ^ k) (2 ^ 2098)) q k
+
+signed : (a b : ℕ) → Signed (round binary64 false a b) (round binary64 true a b)
+signed a b = simp round-is (units-signed _ _)
+
+pub rounded : (a b : ℕ) → Rounded (round binary64 false a b)
+rounded a b = signed a b .0
 
 round-neg : (a b : ℕ) → round binary64 true a b ≡ neg (round binary64 false a b)
-round-neg a b = simp round-is (units-neg _ _)
+round-neg a b = signed a b .1
+
+magnitudes : {x : Float} → Rounded x → (magnitude x ≡ x) × (magnitude (neg x) ≡ x)
+unfolding magnitude neg
+magnitudes (number (plain m e)) = (refl, refl)
+magnitudes overflow = (refl, refl)
+
+pub round-magnitude : (s : Bool) (a b : ℕ) → magnitude (round binary64 s a b) ≡ round binary64 false a b
+round-magnitude true a b = ap magnitude (round-neg a b) ∙ magnitudes (rounded a b) .1
+round-magnitude false a b = magnitudes (rounded a b) .0
 
 -- ---- the operations
 

@@ -5,11 +5,11 @@ use mathlib.Core.Logic.{_⊎_, inl, inr}
 use mathlib.Core.List.{List, [], _∷_}
 use mathlib.Core.Bool.{Bool, true, false, _&&_, _||_}
 use native.Mathlib.Omega.{arith}
-use native.Mathlib.Nat.{add-zero, zero-add}
 use lib.ListN.{length, getD}
 use lib.Dec.{eqb, ltb, leb}
 use lib.Ieee.{Float}
 use borrow.Author.Tests.{ne-eqb, lt-ltb, le-ltb, eqb-true, leb-true}
+use Rattle.surfaces.specs.Types.{rayOf}
 use Rattle.surfaces.specs.Told.{stops}
 use Rattle.surfaces.specs.declared.types.Ray.{Ray}
 use Rattle.surfaces.proofs.Choice.{both}
@@ -19,12 +19,12 @@ use Rattle.recipe.proofs.Scans.{Sound, scan-sound}
 use Rattle.trace.specs.declared.state.State.{State}
 use Rattle.trace.specs.Leg.{width}
 use Rattle.trace.specs.State.{Held, held, advance, fitsOf}
-use Rattle.trace.specs.Trace.{mostRecords, recipeOf, itemsOf, blank, beamOf, firstState, accept, startOf, continueOn, continueOf}
+use Rattle.trace.specs.Trace.{mostRecords, Reply, recipeOf, itemsOf, blank, beamOf, firstState, accept, startOf, continueOn, continueOf}
 use Rattle.trace.specs.Ready.{Stands, walking, arrived, stopped}
-use Rattle.trace.specs.Demand3.{sum, Accepted, called}
+use Rattle.trace.specs.Demand3.{calls, Accepted, called}
 use Rattle.trace.proofs.Fits.{fits-fit}
 use Rattle.trace.proofs.Starts.{Admitted}
-use Rattle.trace.proofs.Demand3.{sound, call, admitted-start, started, after-calls}
+use Rattle.trace.proofs.Demand3.{sound, call, admitted-start, started}
 use Rattle.station.specs.Lent.{passesIn, outcomeIn, stateIn, countsOf, numbersOf, Left, left, told, toldIfAccepted, continued}
 use Rattle.station.specs.Carried.{scans, Beyond, unfit, Carried}
 
@@ -43,7 +43,7 @@ small l s (arrived o n p) = (omega (arith, p), omega (arith, o))
 small l s (stopped o n p) = (omega (arith, p), at-most-9 (s .outcome) o)
 
 read-back : (s : State) → (s .passes < 35) × (s .outcome ≤ 9) → stateIn (countsOf s) (numbersOf s) ≡ s
-unfolding stateIn countsOf numbersOf passesIn outcomeIn
+unfolding stateIn countsOf numbersOf passesIn outcomeIn rayOf
 read-back s h = rw (lt-ltb (s .passes) 65536 (omega (arith, h .0)), lt-ltb (s .outcome) 256 (omega (arith, h .1)))
 
 -- an accepted start's scans
@@ -56,19 +56,16 @@ module _ (b : List ℕ) (ray : Ray) (index : Float) (z : List Float) (a : Admitt
   scan n k =
       rw (read-back (at n .state) (small (itemsOf b) (at n .state) (sound b ray index z a n .fit .stands)), call b ray index z a n k)
 
-  row : (ks : List ℕ) (n : ℕ) → scans b ks (told (accept (at n))) ≡ told (accept (at (n + sum ks)))
-  unfolding scans sum
-  row [] n = rw (add-zero n)
+  row : (ks : List ℕ) (n : ℕ) → scans b ks (told (accept (at n))) ≡ told (calls b ks (accept (at n)))
+  unfolding scans calls
+  row [] n = refl
   row (k ∷ ks) n =
-      let e : n + k + sum ks ≡ n + (k + sum ks) = omega arith in
-      ap (λ (w : Left). scans b ks w) (scan n k) ∙ row ks (n + k) ∙ ap (λ (m : ℕ). told (accept (at m))) e
+      ap (λ (w : Left). scans b ks w) (scan n k) ∙ row ks (n + k) ∙ ap (λ (r : Reply). told (calls b ks r)) (sym (call b ray index z a n k))
 
 carries : (b : List ℕ) (ray : Ray) (index : Float) (z : List Float) (ks : List ℕ) → Accepted b ray index z
     → scans b ks (told (startOf b ray index z)) ≡ told (called b ray index z ks)
 unfolding advance
-carries b ray index z ks h =
-    rw (started b ray index z h) (rw (zero-add (sum ks)) at (row b ray index z (admitted-start b ray index z h) ks 0))
-    ∙ sym (ap told (after-calls b ray index z h ks))
+carries b ray index z ks h = rw (started b ray index z h) (row b ray index z (admitted-start b ray index z h) ks 0)
 
 module _ (c : List ℕ) (x z : List Float) (allowed : ℕ) (h : Beyond c) where
   large : (35 ≤ stateIn c x .passes) ⊎ (10 ≤ stateIn c x .outcome)

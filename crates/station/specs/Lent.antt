@@ -5,7 +5,7 @@ use lib.ListN.{getD}
 use lib.Dec.{eqb, ltb}
 use lib.Ieee.{Float, nan}
 use Rattle.numbers.specs.Arithmetic.{if_then_else_}
-use Rattle.surfaces.specs.declared.types.Ray.{Ray}
+use Rattle.surfaces.specs.Types.{rayOf}
 use Rattle.trace.specs.declared.state.State.{State}
 use Rattle.trace.specs.declared.run.Answer.{Answer}
 use Rattle.trace.specs.Trace.{Reply, continueOf}
@@ -20,9 +20,6 @@ passesIn n = if ltb n 65536 then n else 65535
 
 unfoldable pub outcomeIn : ℕ → ℕ
 outcomeIn n = if ltb n 256 then n else 255
-
-abbrev pub rayOf : Float → Float → Float → Float → Float → Float → Ray
-rayOf ox oy oz dx dy dz = record { origin = record { x = ox; y = oy; z = oz }; direction = record { x = dx; y = dy; z = dz } }
 
 -- counts: number, place, passes, all steps, outcome; numbers: t, origin, direction, index, path
 unfoldable pub stateIn : List ℕ → List Float → State

@@ -4,10 +4,10 @@
 ghost use mathlib.Core.Path.{_≡_};
 ghost use mathlib.Core.List.{List};
 ghost use lib.Ieee.{Float};
+ghost use Rattle.surfaces.specs.Types.{rayOf};
 ghost use Rattle.trace.specs.Trace.{startOf, wholeOf};
-ghost use Rattle.station.specs.Lent.{version, passesIn, outcomeIn, rayOf, stateIn, countsOf, numbersOf, verdictOf, left, told, continued};
-use surfaces::Ray;
-use surfaces::Vec3;
+ghost use Rattle.station.specs.Lent.{version, passesIn, outcomeIn, stateIn, countsOf, numbersOf, verdictOf, left, told, continued};
+use surfaces::ray_of;
 use trace::Answer;
 use trace::Beam;
 use trace::State;
@@ -36,23 +36,6 @@ fn outcome_in(n: u64) -> u8
     ensures { λ r. ⌜ r ≡ outcomeIn n ⌝ }
 {
     if n < 256 { n as u8 } else { u8::MAX }
-}
-
-fn ray_of(ox: f64, oy: f64, oz: f64, dx: f64, dy: f64, dz: f64) -> Ray
-    ensures { λ r. ⌜ r ≡ rayOf ox oy oz dx dy dz ⌝ }
-{
-    Ray {
-        origin: Vec3 {
-            x: ox,
-            y: oy,
-            z: oz,
-        },
-        direction: Vec3 {
-            x: dx,
-            y: dy,
-            z: dz,
-        },
-    }
 }
 
 fn state_in(c: [u64; COUNTS], x: [f64; NUMBERS]) -> State

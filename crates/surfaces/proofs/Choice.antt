@@ -11,6 +11,11 @@ pub both : (a b : Bool) → (a && b) ≡ true → (a ≡ true) × (b ≡ true)
 both true b h = (refl, h)
 both false b h = absurd (false≢true h)
 
+pub nor : (a b : Bool) → (not a || b) ≡ false → (a ≡ true) × (b ≡ false)
+nor true false h = (refl, refl)
+nor true true h = absurd (true≢false h)
+nor false b h = absurd (true≢false h)
+
 pub or-else : (a b : Bool) → b ≡ true → (a || b) ≡ true
 or-else true b h = refl
 or-else false b h = h

@@ -1,12 +1,12 @@
 -- The sag at a root lies between two that need no root, so a number that is near to both is near to it. Assumes nothing.
-use mathlib.Core.Path.{_≡_, refl, ap}
+use mathlib.Core.Path.{_≡_}
 use Prim.Native.Nat.{_+_, _-_, _*_, _^_, _≤_, _<_}
 use native.Mathlib.Nat.{le-of-lt}
 use native.Mathlib.Omega.{arith}
-use mathlib.Core.Bool.{Bool, true, false, not, _&&_, _||_, true≢false, Bool·not-not}
+use mathlib.Core.Bool.{Bool, true, false, not, _&&_, _||_}
 use borrow.Author.Tests.{le-ltb}
 use lib.Dec.{T, lit≤}
-use lib.Ieee.{Float, nan, inf, fin, binary64, up, down, fits, neg, mul, add, lt}
+use lib.Ieee.{Float, binary64, up, down, fits, neg, mul, add, lt}
 use lib.Ieee.Fits.{add-fits, sub-fits}
 use lib.Ieee.Scale.{finite}
 use lib.Ieee.Positive.{num, den, positive}
@@ -24,7 +24,7 @@ use Rattle.numbers.proofs.RootBounds.{root-bounded, square-bounded}
 use Rattle.surfaces.specs.Conic.{SagNear, conicSag, onSheet}
 use Rattle.surfaces.specs.declared.types.Vec3.{Vec3}
 use Rattle.surfaces.specs.declared.conic.ConicSurface.{ConicSurface}
-use Rattle.surfaces.proofs.Choice.{both}
+use Rattle.surfaces.proofs.Choice.{both, nor}
 
 -- ---- the numbers that the test has
 
@@ -140,18 +140,7 @@ module _ (z c b sq guess : Float) where
 
 -- ---- what it says of a surface
 
-neither : (a b : Bool) → (not a || b) ≡ false → (a ≡ true) × (b ≡ false)
-neither true false h = (refl, refl)
-neither true true h = absurd (true≢false h)
-neither false b h = absurd (true≢false h)
-
 pub near-on-sheet : (s : ConicSurface) (p : Vec3) (r : Float) → (not (finite (s .conic)) || (magnitude (s .curvature) <₆₄ 1e-15)) ≡ false →
     SagNear (p .z -₆₄ s .vertex) (s .curvature) ((1f +₆₄ s .conic) *₆₄ s .curvature *₆₄ s .curvature) r → onSheet s p r ≡ true
 unfolding onSheet conicSag
-near-on-sheet s p r h n = let (k, c) = neither (finite (s .conic)) (magnitude (s .curvature) <₆₄ 1e-15) h in rw (n .placed, n .curved, k, c, n .beside, n .inside, n .close)
-
-pub neg-twice : (x : Float) → neg (neg x) ≡ x
-unfolding neg
-neg-twice nan = refl
-neg-twice (inf s) = ap inf (Bool·not-not s)
-neg-twice (fin s m e) = ap (λ (t : Bool). fin t m e) (Bool·not-not s)
+near-on-sheet s p r h n = let (k, c) = nor (finite (s .conic)) (magnitude (s .curvature) <₆₄ 1e-15) h in rw (n .placed, n .curved, k, c, n .beside, n .inside, n .close)

@@ -24,6 +24,9 @@ zeros = vec 0f 0f 0f
 abbrev pub backwards : Vec3
 backwards = vec 0f 0f (neg 1f)
 
+unfoldable pub rayOf : Float → Float → Float → Float → Float → Float → Ray
+rayOf ox oy oz dx dy dz = record { origin = vec ox oy oz; direction = vec dx dy dz }
+
 unfoldable pub dotOf : Vec3 → Vec3 → Float
 dotOf a b = a .x *₆₄ b .x +₆₄ a .y *₆₄ b .y +₆₄ a .z *₆₄ b .z
 

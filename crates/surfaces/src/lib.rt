@@ -50,3 +50,4 @@ pub use types::Ray;
 pub use types::Vec3;
 pub use types::all_finite;
 pub use types::ray_finite;
+pub use types::ray_of;

@@ -2,7 +2,7 @@
 ghost use mathlib.Core.Path.{_≡_};
 ghost use lib.ListN.{take};
 ghost use Rattle.numbers.specs.Sqrt.{root};
-ghost use Rattle.surfaces.specs.Types.{backwards, dotOf, overOf, allFinite, rayFinite, pointAt, sameAbove0, rootAgain, everyFinite, coefficientsGood, noCoefficients};
+ghost use Rattle.surfaces.specs.Types.{rayOf, backwards, dotOf, overOf, allFinite, rayFinite, pointAt, sameAbove0, rootAgain, everyFinite, coefficientsGood, noCoefficients};
 use numbers::is_finite;
 use numbers::sqrt;
 
@@ -15,6 +15,23 @@ pub struct Vec3 {
 pub struct Ray {
     pub origin: Vec3,
     pub direction: Vec3,
+}
+
+pub fn ray_of(ox: f64, oy: f64, oz: f64, dx: f64, dy: f64, dz: f64) -> Ray
+    ensures { λ r. ⌜ r ≡ rayOf ox oy oz dx dy dz ⌝ }
+{
+    Ray {
+        origin: Vec3 {
+            x: ox,
+            y: oy,
+            z: oz,
+        },
+        direction: Vec3 {
+            x: dx,
+            y: dy,
+            z: dz,
+        },
+    }
 }
 
 // Where a ray comes to a surface: so far along the ray, at this point.

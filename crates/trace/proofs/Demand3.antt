@@ -128,7 +128,7 @@ module _ (y : List ℕ) (ray : Ray) (index : Float) (z : List Float) (h : startO
   unfolding startOf startAt
   started = admitted-is 0 ray index (blank z) (recipeOf y) admitted-start _
 
-  pub after-calls : (ks : List ℕ) → calls y ks (startOf y ray index z) ≡ accept (advance (itemsOf y) (sum ks) (held (firstState (length (itemsOf y)) (beamOf ray index)) (blank z)))
+  after-calls : (ks : List ℕ) → calls y ks (startOf y ray index z) ≡ accept (advance (itemsOf y) (sum ks) (held (firstState (length (itemsOf y)) (beamOf ray index)) (blank z)))
   unfolding advance
   after-calls ks =
       ap (λ (r : Reply). calls y ks r) started ∙ row y ray index z admitted-start ks 0

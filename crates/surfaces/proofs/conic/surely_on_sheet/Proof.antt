@@ -2,7 +2,8 @@
 use mathlib.Core.Bool.{false≢true}
 use lib.Ieee.{ofBits}
 use Rattle.numbers.specs.Arithmetic.{decimal}
-use Rattle.surfaces.proofs.Sheet.{near-on-sheet, neg-twice}
+use Rattle.numbers.proofs.Mirror.{neg-twice}
+use Rattle.surfaces.proofs.Sheet.{near-on-sheet}
 use Rattle.surfaces.proofs.conic.surely_on_sheet.Statement.{statement}
 use Rattle.surfaces.proofs.conic.surely_on_sheet.Tie as tie
 

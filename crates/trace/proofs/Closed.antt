@@ -211,7 +211,8 @@ module _ (l r : List Item) (end k at q m n : ℕ) (b : Beam) (w : List Float) (l
   on-surface true e true f alive rest = after-hit (leb-true (end-of .passes) n e) f rest
   on-surface true e false f alive rest = after-refusal (leb-true (end-of .passes) n e) f alive
 
-never-going-on : (o : Optic) (b : Beam) → legOf o b (surfaceEnd (o .surface) (b .ray) .answer) .line .number ≡ 0 → ⊥
+-- a surface's end has a number that is not 0
+pub never-going-on : (o : Optic) (b : Beam) → legOf o b (surfaceEnd (o .surface) (b .ray) .answer) .line .number ≡ 0 → ⊥
 unfolding stops
 never-going-on o b z =
     let x = legOf o b (surfaceEnd (o .surface) (b .ray) .answer) in

@@ -16,20 +16,20 @@ use Rattle.surfaces.specs.declared.types.Ray.{Ray}
 use Rattle.surfaces.specs.declared.surface.Kind.the-variants.{Conic, Even, Biconic, Toroid}
 use Rattle.surfaces.proofs.Choice.{either}
 use Rattle.surfaces.proofs.Chains.{limit-bounds}
-use Rattle.recipe.specs.Scan.{Item, Scan, notes, nothing, sumLimits}
+use Rattle.recipe.specs.Scan.{Item, Scan, notes, nothing, placeOf, sumLimits}
 use Rattle.recipe.proofs.Chain.{Chain, place-first}
 use Rattle.recipe.proofs.Scans.{scan-sound}
 use Rattle.trace.specs.declared.leg.Beam.{Beam}
 use Rattle.trace.specs.declared.state.State.{State}
 use Rattle.trace.specs.Leg.{width}
-use Rattle.trace.specs.Unbroken.{unbroken, total}
+use Rattle.trace.specs.Unbroken.{Mark, Trace, unbroken, total, rows, padded}
 use Rattle.trace.specs.State.{Held, held, move, advance, fitsOf}
 use Rattle.trace.specs.Trace.{mostRecords, Reply, recipeOf, itemsOf, opticsOf, blank, standing, beamOf, firstState, accept, startAt, startOf, continueOn, continueOf}
 use Rattle.trace.specs.Ready.{Stands, walking, arrived, Fit}
-use Rattle.trace.specs.Demand3.{calls, sum, stateAt, traceOf, Kept, called, Demand3}
+use Rattle.trace.specs.Demand3.{calls, sum, stateAt, traceOf, Over, Kept, called, Demand3}
 use Rattle.trace.proofs.Steps.{advance-add, move-ended}
 use Rattle.trace.proofs.Closed.{Shows, outcome-before, closed}
-use Rattle.trace.proofs.Standing.{reached, exactly, total-limit}
+use Rattle.trace.proofs.Standing.{reached, exactly, total-limit, has-outcome, finished-all, at-end}
 use Rattle.trace.proofs.Fits.{fit-move, length-move, fit-fits}
 use Rattle.trace.proofs.Walks.{chain-of}
 use Rattle.trace.proofs.Starts.{Admitted, admitted-by, admitted-is}
@@ -64,6 +64,9 @@ module _ (y : List ℕ) (ray : Ray) (index : Float) (z : List Float) (a : Admitt
 
   abbrev first : Held
   first = held (firstState (length l) b) (blank z)
+
+  abbrev u : Trace
+  u = unbroken (opticsOf l) b
 
   pub chain : Chain y 0 l
   chain = chain-of y (a .good)
@@ -102,7 +105,22 @@ module _ (y : List ℕ) (ray : Ray) (index : Float) (z : List Float) (a : Admitt
       let e : n + k + sum ks ≡ n + (k + sum ks) = omega arith in
       ap (λ (r : Reply). calls y ks r) (call n k) ∙ row ks (n + k) ∙ ap (λ (m : ℕ). accept (advance l m first)) e
 
-  pub kept : (n : ℕ) → Kept y ray index (length z) n (accept (advance l n first))
+  -- n steps are enough
+  over : (n : ℕ) → total (u .marks) ≤ n → Over u (length z) (accept (advance l n first))
+  over n h =
+      let s = shown n in
+      let e = at-end l (length y) 0 0 n b h in
+      let at : advance l n first .state ≡ standing (u .hits) (placeOf l (length y) (u .hits)) (u .beam) (total (u .marks)) (u .outcome) = s .state ∙ e ∙ rw (zero-add (u .hits), zero-add (total (u .marks))) in
+      record {
+        outcome = ap (λ (q : State). q .outcome) at;
+        ended = has-outcome l b;
+        steps = ap (λ (q : State). q .steps) at;
+        number = ap (λ (q : State). q .number) at;
+        beam = ap (λ (q : State). q .beam) at;
+        buffer = s .buffer ∙ ap (λ (m : List Mark). padded (length z) (rows m)) (finished-all (u .marks) n h);
+      }
+
+  pub kept : (n : ℕ) → Kept (traceOf y ray index) (stateAt l (length y) 0 b 0 n) (length z) n (accept (advance l n first))
   unfolding traceOf
   kept n =
       let s = shown n in
@@ -111,11 +129,11 @@ module _ (y : List ℕ) (ray : Ray) (index : Float) (z : List Float) (a : Admitt
         accepted = refl;
         place = refl;
         buffer = s .buffer;
-        exactly = exactly (unbroken (opticsOf l) b .marks) n;
+        exactly = exactly (u .marks) n;
         steps = ap (λ (q : State). q .steps) (s .state) ∙ r .steps ∙ zero-add _;
         state = s .state;
         outcome = ap (λ (q : State). q .outcome) (s .state) ∙ r .outcome;
-        ended = λ c. let e = r .ended c in (ap (λ (q : State). q .beam) (s .state) ∙ e .0, ap (λ (q : State). q .number) (s .state) ∙ e .1 ∙ zero-add _);
+        over = over n;
       }
 
 -- an accepted start
@@ -134,19 +152,13 @@ module _ (y : List ℕ) (ray : Ray) (index : Float) (z : List Float) (h : startO
       ap (λ (r : Reply). calls y ks r) started ∙ row y ray index z admitted-start ks 0
       ∙ ap (λ (n : ℕ). accept (advance (itemsOf y) n (held (firstState (length (itemsOf y)) (beamOf ray index)) (blank z)))) (zero-add (sum ks))
 
-  any-allowances : (ks : List ℕ) → Kept y ray index (length z) (sum ks) (called y ray index z ks)
-  any-allowances ks = subst (λ (r : Reply). Kept y ray index (length z) (sum ks) r) (sym (after-calls ks)) (kept y ray index z admitted-start (sum ks))
+  any-allowances : (ks : List ℕ) → Kept (traceOf y ray index) (stateAt (itemsOf y) (length y) 0 (beamOf ray index) 0 (sum ks)) (length z) (sum ks) (called y ray index z ks)
+  any-allowances ks =
+      subst (λ (r : Reply). Kept (traceOf y ray index) (stateAt (itemsOf y) (length y) 0 (beamOf ray index) 0 (sum ks)) (length z) (sum ks) r) (sym (after-calls ks)) (kept y ray index z admitted-start (sum ks))
 
-  all-limits : (ks : List ℕ) → sumLimits (itemsOf y) ≤ sum ks → total (traceOf y ray index .marks) ≤ sum ks
+  has-ended : (ks : List ℕ) → sumLimits (itemsOf y) ≤ sum ks → Over (traceOf y ray index) (length z) (called y ray index z ks)
   unfolding traceOf
-  all-limits ks h = omega (arith, total-limit (itemsOf y) (beamOf ray index))
-
-  has-ended : (ks : List ℕ) → sumLimits (itemsOf y) ≤ sum ks
-      → (called y ray index z ks .answer .state .outcome ≡ traceOf y ray index .outcome) × (called y ray index z ks .answer .state .beam ≡ traceOf y ray index .beam)
-  has-ended ks h =
-      let k = any-allowances ks in
-      let t = all-limits ks h in
-      (k .outcome ∙ rw (le-leb (total (traceOf y ray index .marks)) (sum ks) t), k .ended t .0)
+  has-ended ks h = any-allowances ks .over (omega (arith, total-limit (itemsOf y) (beamOf ray index)))
 
   never-12 : (ks : List ℕ) (w : List Float) (n : ℕ) → continueOf y (called y ray index z ks .answer .state) w n .answer .number ≢ 12
   unfolding continueOf

@@ -1,13 +1,14 @@
 -- The state after n steps beside the unbroken trace, and which surfaces are finished by then. Assumes nothing.
 use Prim.Native.Nat.{ℕ, zero, suc, _+_, _-_, _≤_, _<_, min, zero-le}
 use mathlib.Core.Path.{_≡_, refl, sym, _∙_, ap}
+use mathlib.Core.Logic.{_≢_, _↔_}
 use mathlib.Core.List.{List, [], _∷_}
 use mathlib.Core.Bool.{Bool, true, false}
 use native.Mathlib.Omega.{arith}
 use native.Mathlib.Nat.{add-zero}
 use lib.ListN.{length, take}
-use lib.Dec.{leb, ltb, leb·zero}
-use borrow.Author.Tests.{le-leb, lt-leb, leb-true, leb-false, lt-ltb, le-ltb, ltb-true, ltb-false}
+use lib.Dec.{leb, leb·zero}
+use borrow.Author.Tests.{le-leb, lt-leb, leb-true, leb-false}
 use Rattle.numbers.specs.Arithmetic.{if_then_else_, 0f}
 use Rattle.surfaces.specs.Told.{Told, Ended, done}
 use Rattle.surfaces.specs.Surface.{surfaceEnd, limitOf}
@@ -19,36 +20,33 @@ use Rattle.trace.specs.declared.state.State.{State}
 use Rattle.trace.specs.Leg.{legOf, beamAfter}
 use Rattle.trace.specs.Unbroken.{Mark, Trace, unbroken, total, finished}
 use Rattle.trace.specs.Trace.{opticsOf, standing}
-use Rattle.trace.specs.Demand3.{stateAt}
-use Rattle.trace.proofs.Closed.{unbroken-hit, unbroken-off, state-mid, state-hit, state-off}
+use Rattle.trace.specs.Demand3.{stateAt, stepsTo}
+use Rattle.trace.proofs.Closed.{unbroken-hit, unbroken-off, state-mid, state-hit, state-off, never-going-on}
 
--- how far a trace u has come after n steps, by a state s that began at surface k with q steps
-pub record Reached (u : Trace) (k q n : ℕ) (s : State) : Type 0 where
+-- how far a trace u has come after n steps, by a state s that began with q steps
+pub record Reached (u : Trace) (q n : ℕ) (s : State) : Type 0 where
   pub steps : s .steps ≡ q + min n (total (u .marks))
   pub outcome : s .outcome ≡ (if leb (total (u .marks)) n then u .outcome else 0)
-  pub ended : total (u .marks) ≤ n → (s .beam ≡ u .beam) × (s .number ≡ k + u .hits)
 
-module _ (k q n : ℕ) (a : Mark) where
-  unfinished : (u : Trace) (s : State) → n < a .steps → (l : List Mark) → u .marks ≡ a ∷ l → s .steps ≡ q + n → s .outcome ≡ 0 → Reached u k q n s
+module _ (q n : ℕ) (a : Mark) where
+  unfinished : (u : Trace) (s : State) → n < a .steps → (l : List Mark) → u .marks ≡ a ∷ l → s .steps ≡ q + n → s .outcome ≡ 0 → Reached u q n s
   unfolding total
   unfinished u s h l m f g =
       let t : n < total (u .marks) = rw m (omega arith) in
-      record { steps = f ∙ omega (arith, t); outcome = rw (lt-leb (total (u .marks)) n t) g; ended = λ c. absurd (omega (arith, t)) }
+      record { steps = f ∙ omega (arith, t); outcome = rw (lt-leb (total (u .marks)) n t) g }
 
-  refused : (s : State) (o : ℕ) (b : Beam) → a .steps ≤ n → s .steps ≡ q + a .steps → s .outcome ≡ o → s .beam ≡ b → s .number ≡ k
-      → Reached (record { marks = a ∷ []; outcome = o; beam = b; hits = 0 }) k q n s
+  refused : (s : State) (o : ℕ) (b : Beam) → a .steps ≤ n → s .steps ≡ q + a .steps → s .outcome ≡ o
+      → Reached (record { marks = a ∷ []; outcome = o; beam = b; hits = 0 }) q n s
   unfolding total
-  refused s o b h f g e i =
-      record { steps = f ∙ omega arith; outcome = rw (le-leb (a .steps + 0) n (omega arith)) g; ended = λ c. (e, i ∙ sym (add-zero k)) }
+  refused s o b h f g = record { steps = f ∙ omega arith; outcome = rw (le-leb (a .steps + 0) n (omega arith)) g }
 
-  hit : (u : Trace) (s : State) → a .steps ≤ n → Reached u (k + 1) (q + a .steps) (n - a .steps) s
-      → Reached (record { marks = a ∷ u .marks; outcome = u .outcome; beam = u .beam; hits = suc (u .hits) }) k q n s
+  hit : (u : Trace) (s : State) → a .steps ≤ n → Reached u (q + a .steps) (n - a .steps) s
+      → Reached (record { marks = a ∷ u .marks; outcome = u .outcome; beam = u .beam; hits = suc (u .hits) }) q n s
   unfolding total
   hit u s h r =
       record {
         steps = r .steps ∙ omega arith;
         outcome = r .outcome ∙ ap (λ (t : Bool). if t then u .outcome else 0) (shift (leb (total (u .marks)) (n - a .steps)) refl);
-        ended = λ c. let e = r .ended (omega arith) in (e .0, e .1 ∙ omega arith);
       }
     where
       shift : (t : Bool) → leb (total (u .marks)) (n - a .steps) ≡ t → t ≡ leb (a .steps + total (u .marks)) n
@@ -63,48 +61,41 @@ module _ (i : Item) (r : List Item) (end k q n : ℕ) (b : Beam) where
   x = legOf (i .optic) b (e .answer)
 
   on-surface : (t : Bool) → leb (e .passes) n ≡ t → (d : Bool) → done x ≡ d
-      → Reached (unbroken (opticsOf r) (beamAfter (i .optic) b (x .value))) (k + 1) (q + e .passes) (n - e .passes) (stateAt r end (k + 1) (beamAfter (i .optic) b (x .value)) (q + e .passes) (n - e .passes))
-      → Reached (unbroken (opticsOf (i ∷ r)) b) k q n (stateAt (i ∷ r) end k b q n)
+      → Reached (unbroken (opticsOf r) (beamAfter (i .optic) b (x .value))) (q + e .passes) (n - e .passes) (stateAt r end (k + 1) (beamAfter (i .optic) b (x .value)) (q + e .passes) (n - e .passes))
+      → Reached (unbroken (opticsOf (i ∷ r)) b) q n (stateAt (i ∷ r) end k b q n)
   on-surface false t true d rest =
       let h = leb-false (e .passes) n t in
-      rw (state-mid i r b end k q n h) (unfinished k q n _ _ _ h _ (ap (λ (u : Trace). u .marks) (unbroken-hit i r b d)) refl refl)
+      rw (state-mid i r b end k q n h) (unfinished q n _ _ _ h _ (ap (λ (u : Trace). u .marks) (unbroken-hit i r b d)) refl refl)
   on-surface false t false d rest =
       let h = leb-false (e .passes) n t in
-      rw (state-mid i r b end k q n h) (unfinished k q n _ _ _ h _ (ap (λ (u : Trace). u .marks) (unbroken-off i r b d)) refl refl)
+      rw (state-mid i r b end k q n h) (unfinished q n _ _ _ h _ (ap (λ (u : Trace). u .marks) (unbroken-off i r b d)) refl refl)
   on-surface true t true d rest =
       let h = leb-true (e .passes) n t in
-      rw (state-hit i r b end k q n h d, unbroken-hit i r b d) (hit k q n _ _ _ h rest)
+      rw (state-hit i r b end k q n h d, unbroken-hit i r b d) (hit q n _ _ _ h rest)
   on-surface true t false d rest =
       let h = leb-true (e .passes) n t in
-      rw (state-off i r b end k q n h d, unbroken-off i r b d) (refused k q n _ _ _ _ h refl refl refl refl)
+      rw (state-off i r b end k q n h d, unbroken-off i r b d) (refused q n _ _ _ _ h refl refl)
 
-pub reached : (r : List Item) (end k q n : ℕ) (b : Beam) → Reached (unbroken (opticsOf r) b) k q n (stateAt r end k b q n)
+pub reached : (r : List Item) (end k q n : ℕ) (b : Beam) → Reached (unbroken (opticsOf r) b) q n (stateAt r end k b q n)
 unfolding unbroken stateAt total
-reached [] end k q n b = record { steps = omega arith; outcome = rw (leb·zero n); ended = λ c. (refl, sym (add-zero k)) }
+reached [] end k q n b = record { steps = omega arith; outcome = rw (leb·zero n) }
 reached (i ∷ r) end k q n b = on-surface i r end k q n b _ refl _ refl (reached r end (k + 1) _ _ _)
 
--- of the first mark, and of those behind it
-module _ (m : Mark) (l : List Mark) (n : ℕ) where
-  abbrev rest : List Mark
-  rest = finished (n - m .steps) l
-
-  later : m .steps ≤ n → (k : ℕ) (t : Bool) → ltb k (length rest) ≡ t → ltb k (length rest) ≡ leb (total (take (suc k) l)) (n - m .steps)
-      → ltb (suc k) (suc (length rest)) ≡ leb (m .steps + total (take (suc k) l)) n
-  later f k true a b = lt-ltb (suc k) _ (omega (arith, ltb-true k _ a)) ∙ sym (le-leb _ n (omega (arith, leb-true (total (take (suc k) l)) (n - m .steps) (sym b ∙ a))))
-  later f k false a b = le-ltb (suc k) _ (omega (arith, ltb-false k _ a)) ∙ sym (lt-leb _ n (omega (arith, leb-false (total (take (suc k) l)) (n - m .steps) (sym b ∙ a))))
-
-  from-first : (t : Bool) → leb (m .steps) n ≡ t → (k : ℕ) → ((j : ℕ) → k ≡ suc j → ltb j (length rest) ≡ leb (total (take (suc j) l)) (n - m .steps))
-      → ltb k (length (if t then m ∷ rest else [])) ≡ leb (m .steps + total (take k l)) n
-  unfolding total
-  from-first false h k behind = let f = leb-false (m .steps) n h in le-ltb k 0 zero-le ∙ sym (lt-leb (m .steps + total (take k l)) n (omega arith))
-  from-first true h zero behind = let f = leb-true (m .steps) n h in lt-ltb 0 (suc (length rest)) (omega arith) ∙ sym (le-leb (m .steps + 0) n (omega arith))
-  from-first true h (suc k) behind = later (leb-true (m .steps) n h) k _ refl (behind k refl)
-
--- surface k is finished exactly if its steps and those before it add up to at most n
-pub exactly : (l : List Mark) (n k : ℕ) → k < length l → ltb k (length (finished n l)) ≡ leb (total (take (suc k) l)) n
+-- surface k is finished if and only if its steps and those before it add up to at most n
+pub exactly : (l : List Mark) (n k : ℕ) → k < length l → (k < length (finished n l)) ↔ (stepsTo k l ≤ n)
 unfolding finished total
 exactly [] n k h = absurd (omega arith)
-exactly (m ∷ l) n k h = from-first m l n (leb (m .steps) n) refl k (λ j e. exactly l (n - m .steps) j (omega arith))
+exactly (m ∷ l) n k h = by (leb (m .steps) n) refl k h (λ j i. exactly l (n - m .steps) j i)
+  where
+    by : (t : Bool) → leb (m .steps) n ≡ t → (k : ℕ) → k < suc (length l)
+        → ((j : ℕ) → j < length l → (j < length (finished (n - m .steps) l)) ↔ (stepsTo j l ≤ n - m .steps))
+        → (k < length (if t then m ∷ finished (n - m .steps) l else [])) ↔ (m .steps + total (take k l) ≤ n)
+    by false e k h rest = (λ a. absurd (omega arith), λ b. absurd (omega (arith, leb-false (m .steps) n e)))
+    by true e zero h rest = let f = leb-true (m .steps) n e in (λ a. omega arith, λ b. omega arith)
+    by true e (suc j) h rest =
+        let f = leb-true (m .steps) n e in
+        let later = rest j (omega arith) in
+        (λ a. omega (arith, later .0 (omega arith)), λ b. omega (arith, later .1 (omega arith)))
 
 few : (i : Item) (l : List Item) (b : Beam) (d : Bool) → done (legOf (i .optic) b (surfaceEnd (i .optic .surface) (b .ray) .answer)) ≡ d
     → ((c : Beam) → total (unbroken (opticsOf l) c .marks) ≤ sumLimits l)
@@ -118,6 +109,17 @@ pub total-limit : (l : List Item) (b : Beam) → total (unbroken (opticsOf l) b 
 unfolding unbroken total sumLimits
 total-limit [] b = zero-le
 total-limit (i ∷ l) b = few i l b _ refl (total-limit l)
+
+-- it ends
+ending : (i : Item) (l : List Item) (b : Beam) (d : Bool) → done (legOf (i .optic) b (surfaceEnd (i .optic .surface) (b .ray) .answer)) ≡ d
+    → ((c : Beam) → unbroken (opticsOf l) c .outcome ≢ 0) → unbroken (opticsOf (i ∷ l)) b .outcome ≢ 0
+ending i l b true d rest = rw (unbroken-hit i l b d) (rest _)
+ending i l b false d rest = rw (unbroken-off i l b d) (never-going-on (i .optic) b)
+
+pub has-outcome : (l : List Item) (b : Beam) → unbroken (opticsOf l) b .outcome ≢ 0
+unfolding unbroken
+has-outcome [] b = λ e. omega arith
+has-outcome (i ∷ l) b = ending i l b _ refl (has-outcome l)
 
 -- all surfaces are finished once the steps suffice
 pub finished-all : (l : List Mark) (n : ℕ) → total l ≤ n → finished n l ≡ l

@@ -13,7 +13,7 @@ use Rattle.recipe.specs.declared.scan.Seen.{Seen}
 use Rattle.recipe.specs.declared.scan.Checked.{Checked}
 use Rattle.recipe.specs.Record.{Read, bad, good, recordAt}
 use Rattle.recipe.specs.Scan.{Item, Scan, refused, items, before, seenOf, scan, failed, note, notes, says}
-use Rattle.recipe.proofs.Records.{bad-number, good-inside}
+use Rattle.recipe.proofs.Records.{not-1, bad-number, good-inside}
 use Rattle.recipe.proofs.Scans.{scan-end, scan-full, scan-record}
 
 -- a record that a look passes
@@ -31,7 +31,7 @@ module _ (b : List ℕ) (at : ℕ) (s : Seen) (e : s ≡ seenOf (recordAt b at))
   seen-passed h = by (recordAt b at) refl
     where
       by : (r : Read) → recordAt b at ≡ r → Passed b at (s .next) (s .limit)
-      by (bad n) q = absurd (bad-number b at q (sym (ap (λ (x : Seen). x .number) (rw q at e)) ∙ h))
+      by (bad n) q = absurd (not-1 (bad-number b at q) (sym (ap (λ (x : Seen). x .number) (rw q at e)) ∙ h))
       by (good o next) q =
           let p = rw q at e in let i = good-inside b at q in
           rw p (record { optic = o; reads = q; limit-is = refl; far = i .0; inside = i .1; few = limit-bounds (o .surface .kind) .1 })

@@ -3,13 +3,14 @@ use Prim.Native.Nat.{ℕ, _+_, _/_, _%_, _≤_, _<_}
 use native.Mathlib.Omega.{arith}
 use mathlib.Core.Path.{_≡_, refl}
 use mathlib.Core.Logic.{_≢_}
-use mathlib.Core.Bool.{Bool, true, false, not}
-use mathlib.Core.List.{List}
+use mathlib.Core.Bool.{Bool, true, false, not, false≢true}
+use mathlib.Core.List.{List, [], _∷_}
 use lib.ListN.{length}
 use lib.Dec.{eqb}
 use lib.Ieee.Scale.{finite}
 use Rattle.numbers.specs.Arithmetic.{_<₆₄_, _≤₆₄_, if_then_else_, 0f}
 use Rattle.surfaces.specs.Types.{everyFinite}
+use Rattle.surfaces.specs.Demand1.{oneOf}
 use Rattle.surfaces.proofs.Choice.{either}
 use Rattle.recipe.specs.declared.record.Optic.{Optic}
 use Rattle.recipe.specs.Endian.{numbersAt}
@@ -27,9 +28,16 @@ record Accepted (b : List ℕ) (at : ℕ) (o : Optic) (next : ℕ) : Type 0 wher
 not-good : {n : ℕ} {o : Optic} {next : ℕ} → bad n ≡ good o next → ⊥
 not-good e = let z : _≡_ {A = ℕ} 0 1 = cc in omega arith
 
--- a refusal's number is never 1
+-- the numbers of a record's refusals, among which 1 is not
+abbrev pub Refuses : ℕ → Type 0
+Refuses n = oneOf (2 ∷ 3 ∷ 4 ∷ 10 ∷ []) n ≡ true
+
+pub not-1 : {n : ℕ} → Refuses n → n ≢ 1
+unfolding oneOf
+not-1 h e = false≢true (rw e at h)
+
 abbrev Numbered : Read → Type 0
-Numbered (bad n) = n ≢ 1
+Numbered (bad n) = Refuses n
 Numbered (good o next) = Unit {0}
 
 module _ (b : List ℕ) (at : ℕ) where
@@ -67,12 +75,12 @@ module _ (b : List ℕ) (at : ℕ) where
         rw (a .optic) (finite-at b (at + 4) (lengthAt b at / 8) 1 (omega arith) (a .numbers), a .index)
 
   judged-number : Numbered (recordAt b at)
-  unfolding recordAt negativeSemi
+  unfolding recordAt negativeSemi oneOf
   judged-number =
-      either Numbered (not (shapedAt b at)) _ _ (omega arith)
-      (either Numbered (not (everyFinite (numbersAt b (at + 4) (lengthAt b at / 8)))) _ _ (omega arith)
-      (either Numbered (slotAt b at (semiSlot (kindAt b at % 256)) <₆₄ 0f) _ _ (either (λ n. n ≢ 1) (eqb (kindAt b at % 256) 1) _ _ (omega arith) (omega arith))
-      (either Numbered (slotAt b at 1 ≤₆₄ 0f) _ _ (omega arith) tt)))
+      either Numbered (not (shapedAt b at)) _ _ refl
+      (either Numbered (not (everyFinite (numbersAt b (at + 4) (lengthAt b at / 8)))) _ _ refl
+      (either Numbered (slotAt b at (semiSlot (kindAt b at % 256)) <₆₄ 0f) _ _ (either Refuses (eqb (kindAt b at % 256) 1) _ _ refl refl)
+      (either Numbered (slotAt b at 1 ≤₆₄ 0f) _ _ refl tt)))
 
-  pub bad-number : {n : ℕ} → recordAt b at ≡ bad n → n ≢ 1
+  pub bad-number : {n : ℕ} → recordAt b at ≡ bad n → Refuses n
   bad-number h = rw h at judged-number

@@ -2,17 +2,17 @@
 use Prim.Native.Nat.{ℕ, zero, suc, _≤_, _<_, zero-le}
 use native.Mathlib.Omega.{arith}
 use mathlib.Core.Path.{_≡_, refl}
-use mathlib.Core.Logic.{_≢_}
 use mathlib.Core.Bool.{Bool, true, false}
 use mathlib.Core.List.{List, [], _∷_}
 use lib.ListN.{length}
 use lib.Dec.{ltb}
 use borrow.Author.Tests.{lt-ltb, le-ltb, ltb-true, ltb-false}
 use Rattle.numbers.specs.Arithmetic.{if_then_else_}
+use Rattle.surfaces.specs.Demand1.{oneOf}
 use Rattle.recipe.specs.declared.record.Optic.{Optic}
 use Rattle.recipe.specs.Record.{Read, bad, good, recordAt}
 use Rattle.recipe.specs.Scan.{Item, Scan, refused, items, before, onRead, scan, itemsIn}
-use Rattle.recipe.proofs.Records.{bad-number}
+use Rattle.recipe.proofs.Records.{Refuses, bad-number}
 
 pub data Scanned (b : List ℕ) : ℕ → ℕ → Scan → Type 0 where
   over : {left at : ℕ} → length b ≤ at → Scanned b left at (items [])
@@ -42,15 +42,16 @@ scanned b (suc left) at = by (ltb at (length b)) refl (recordAt b at) refl (scan
     by true t (bad n) e go = stopped (ltb-true at (length b) t) e
     by true t (good o next) e go = rest (ltb-true at (length b) t) e (scan b left next) (go next)
 
--- a refusal's number is never 1
+-- a refusal's number is that of a record's
 abbrev pub Sound : Scan → Type 0
-Sound (refused n p) = n ≢ 1
+Sound (refused n p) = Refuses n
 Sound (items l) = Unit {0}
 
 module _ {b : List ℕ} where
   sound : {left at : ℕ} {s : Scan} → Scanned b left at s → Sound s
+  unfolding oneOf
   sound (over h) = tt
-  sound (full h) = omega arith
+  sound (full h) = refl
   sound (stopped h e) = bad-number b _ e
   sound (fails h e s) = sound s
   sound (passes h e s) = tt

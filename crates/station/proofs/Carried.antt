@@ -15,6 +15,7 @@ use Rattle.surfaces.specs.declared.types.Ray.{Ray}
 use Rattle.surfaces.proofs.Choice.{both}
 use Rattle.surfaces.proofs.Chains.{limit-bounds}
 use Rattle.recipe.specs.Scan.{Item, Scan, refused, items, notes, nothing, itemAt}
+use Rattle.recipe.proofs.Records.{not-1}
 use Rattle.recipe.proofs.Scans.{Sound, scan-sound}
 use Rattle.trace.specs.declared.state.State.{State}
 use Rattle.trace.specs.Leg.{width}
@@ -85,7 +86,7 @@ module _ (c : List ℕ) (x z : List Float) (allowed : ℕ) (h : Beyond c) where
       too-large (inr p) q = omega (arith, p, q .1)
 
   refuses-on : (r : Scan) → Sound r → (end : ℕ) → toldIfAccepted c x (continueOn r end (stateIn c x) z allowed) ≡ left (unfit r (length z)) c x z
-  refuses-on (refused n p) s end = rw (ne-eqb n 1 s)
+  refuses-on (refused n p) s end = rw (ne-eqb n 1 (not-1 s))
   refuses-on (items l) s end = by (ltb (length z) (width * length l)) refl
     where
       by : (t : Bool) → ltb (length z) (width * length l) ≡ t → toldIfAccepted c x (continueOn (items l) end (stateIn c x) z allowed) ≡ left (unfit (items l) (length z)) c x z

@@ -7,3 +7,4 @@ pub mod Asphere
 pub mod Biconic
 pub mod Surface
 pub mod Edges
+pub mod Demand1

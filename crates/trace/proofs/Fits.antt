@@ -36,20 +36,21 @@ use Rattle.trace.proofs.Endings.{leg-stops, leg-finite}
 abbrev IndexGood : Float → Type 0
 IndexGood n = (finite n ≡ true) × ((n ≤₆₄ 0f) ≡ false)
 
--- what a good beam says of its ray and its index
-pub good-beam : (b : Beam) → beamGood b ≡ true → (rayFinite (b .ray) ≡ true) × IndexGood (b .index)
+-- what a good beam says of its ray, its path and its index
+pub good-beam : (b : Beam) → beamGood b ≡ true → (rayFinite (b .ray) ≡ true) × (finite (b .path) ≡ true) × IndexGood (b .index)
 unfolding beamGood
 good-beam b h =
     let sign = both (rayFinite (b .ray) && finite (b .path) && finite (b .index)) _ h in
     let index = both (rayFinite (b .ray) && finite (b .path)) _ (sign .0) in
-    (both _ (finite (b .path)) (index .0) .0, (index .1, not-true (b .index ≤₆₄ 0f) (sign .1)))
+    let ray = both (rayFinite (b .ray)) _ (index .0) in
+    (ray .0, ray .1, (index .1, not-true (b .index ≤₆₄ 0f) (sign .1)))
 
 -- a beam after a hit
 module _ (o : Optic) (b : Beam) (g : Leg) where
   beam-good : legFinite g ≡ true → beamGood b ≡ true → IndexGood (o .index) → beamGood (beamAfter o b g) ≡ true
   unfolding legFinite beamGood beamAfter rayFinite
   beam-good h before after =
-      let n : IndexGood (if o .mirror then b .index else o .index) = either IndexGood (o .mirror) (b .index) (o .index) (good-beam b before .1) after in
+      let n : IndexGood (if o .mirror then b .index else o .index) = either IndexGood (o .mirror) (b .index) (o .index) (good-beam b before .2) after in
       let path : finite (g .path) ≡ true = both (finite (g .t) && allFinite (g .point) && allFinite (g .normal) && allFinite (g .direction)) _ h .1 in
       let rest = both (finite (g .t) && allFinite (g .point) && allFinite (g .normal) && allFinite (g .direction)) _ h .0 in
       let direction : allFinite (g .direction) ≡ true = both (finite (g .t) && allFinite (g .point) && allFinite (g .normal)) _ rest .1 in
@@ -148,13 +149,13 @@ module _ (l : List Item) (end : ℕ) (s : State) where
   abbrev c : Checked
   c = notes (s .number) nothing l
 
-  count-is : c .count ≡ length l
+  pub count-is : c .count ≡ length l
   count-is = omega (arith, notes-count (s .number) nothing l)
 
-  limits-is : c .limits ≡ sumLimits l
+  pub limits-is : c .limits ≡ sumLimits l
   limits-is = omega (arith, notes-limits (s .number) nothing l)
 
-  found-is : s .number < length l → (c .found ≡ placeOf l end (s .number)) × (c .limit ≡ limitOf (itemAt l (s .number) .optic .surface .kind))
+  pub found-is : s .number < length l → (c .found ≡ placeOf l end (s .number)) × (c .limit ≡ limitOf (itemAt l (s .number) .optic .surface .kind))
   found-is h =
       let q = notes-found (s .number) nothing l (s .number) (omega arith) h in
       (q .0 ∙ sym (place-at l end (s .number) h), q .1)

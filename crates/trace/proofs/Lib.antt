@@ -6,8 +6,10 @@ pub mod Steps
 pub mod Closed
 pub mod Standing
 pub mod Fits
+pub mod Unfits
 pub mod Walks
 pub mod Starts
+pub mod Demand1
 pub mod Demand3
 pub mod Wholes
 pub mod Files

@@ -13,6 +13,7 @@ use lib.Ieee.{Float}
 use Rattle.numbers.specs.Arithmetic.{if_then_else_}
 use Rattle.surfaces.specs.declared.types.Ray.{Ray}
 use Rattle.recipe.specs.Source.{sourceBytes, sourceOf}
+use Rattle.recipe.proofs.Records.{not-1}
 use Rattle.recipe.proofs.Scans.{Sound, scan-sound}
 use Rattle.recipe.proofs.Length.{too-long}
 use Rattle.recipe.proofs.Sources.{source-take}
@@ -26,7 +27,7 @@ module _ (b : List ℕ) (long : 55296 < length b) (base : ℕ) (ray : Ray) (inde
 
   off : startAt base b ray index z .answer .number ≢ 1
   unfolding startAt refusedAnswer
-  off = let r = too-long b mostRecords long in rw (r .one) (subst Sound (r .one) (scan-sound b mostRecords 0))
+  off = let r = too-long b mostRecords long in rw (r .one) (not-1 (subst Sound (r .one) (scan-sound b mostRecords 0)))
 
 drop-take : (k n : ℕ) (l : List ℕ) → drop k (take (k + n) l) ≡ take n (drop k l)
 drop-take zero n l = rw (zero-add n)

@@ -17,6 +17,7 @@ use Rattle.surfaces.proofs.Choice.{both}
 use Rattle.surfaces.proofs.Chains.{limit-bounds}
 use Rattle.recipe.specs.declared.scan.Checked.{Checked}
 use Rattle.recipe.specs.Scan.{Item, Scan, refused, items, notes, nothing, says, checkOf, itemsIn, sumLimits}
+use Rattle.recipe.proofs.Records.{not-1}
 use Rattle.recipe.proofs.Notes.{notes-answer, notes-count}
 use Rattle.recipe.proofs.Scans.{Sound, scan-sound, scan-few}
 use Rattle.trace.specs.declared.state.State.{State}
@@ -33,7 +34,7 @@ pub data Finding (w : ℕ) (c : Checked) : Scan → Type 0 where
   finds-good : {l : List Item} → c ≡ notes w nothing l → c .number ≡ 1 → c .count ≡ length l → Finding w c (items l)
 
 found : (w : ℕ) (c : Checked) (r : Scan) → Sound r → c ≡ says w nothing r → Finding w c r
-found w c (refused n p) h e = finds-bad (ap (λ (k : Checked). k .number) e) (ap (λ (k : Checked). k .place) e) (λ q. h (sym (ap (λ (k : Checked). k .number) e) ∙ q))
+found w c (refused n p) h e = finds-bad (ap (λ (k : Checked). k .number) e) (ap (λ (k : Checked). k .place) e) (λ q. not-1 h (sym (ap (λ (k : Checked). k .number) e) ∙ q))
 found w c (items l) h e =
     finds-good e (ap (λ (k : Checked). k .number) e ∙ notes-answer w nothing l .0) (let q = ap (λ (k : Checked). k .count) e in omega (arith, q, notes-count w nothing l))
 
@@ -87,7 +88,7 @@ module _ (ray : Ray) (index : Float) where
 
   good-admission : (room count : ℕ) → beamGood (beamOf ray index) ≡ true → width * count ≤ room → admission ray index room count ≡ 1
   unfolding admission
-  good-admission room count b h = let g = good-beam (beamOf ray index) b in rw (g .0, g .1 .0, g .1 .1, le-ltb room (width * count) h)
+  good-admission room count b h = let g = good-beam (beamOf ray index) b in rw (g .0, g .2 .0, g .2 .1, le-ltb room (width * count) h)
 
 module _ (base : ℕ) (ray : Ray) (index : Float) (z : List Float) where
   admits : (l : List Item) (f : Reply) (t : Bool) → let n = admission ray index (length z) (length l) in
@@ -100,7 +101,7 @@ module _ (base : ℕ) (ray : Ray) (index : Float) (z : List Float) where
 
   pub admitted-by : (r : Scan) → Sound r → (f : List Item → Reply) → admitted r base ray index z f .answer .number ≡ 1 → Admitted r ray index z
   unfolding refusedAnswer
-  admitted-by (refused n p) s f h = absurd (s h)
+  admitted-by (refused n p) s f h = absurd (not-1 s h)
   admitted-by (items l) s f h = admits l (f l) _ refl h
 
   -- what is accepted, and what is refused, whatever an accepted start leads to

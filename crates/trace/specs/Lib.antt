@@ -3,6 +3,7 @@ pub mod Unbroken
 pub mod State
 pub mod Trace
 pub mod Ready
+pub mod Demand1
 pub mod Demand3
 pub mod Long
 pub mod Example

@@ -1,2 +1,3 @@
 pub mod Lent
+pub mod Demand1
 pub mod Carried

@@ -1,4 +1,5 @@
--- The unbroken trace: each surface in turn by its own rule to its end, with no state and no allowance. Definitions only.
+-- The unbroken trace: each surface in turn by its own rule to its end, with no state and no allowance. That it is not defined through the continuation is
+-- seen in the imports: of this crate the beam and `Leg` alone, which know no state and no step. Definitions only.
 use Prim.Native.Nat.{ℕ, suc, _+_, _-_}
 use mathlib.Core.List.{List, [], _∷_, _++_}
 use lib.ListN.{length, replicate}

@@ -6,6 +6,7 @@ pub mod Again
 pub mod Shared
 mod Sheet
 pub mod Passes
+pub mod Demand1
 pub mod Stops
 pub mod Unique
 pub mod Chains

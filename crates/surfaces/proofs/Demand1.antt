@@ -1,0 +1,226 @@
+-- Demand 1 for the public functions: the raw rules' numbers, and from these what is handed out. Assumes nothing.
+use Prim.Native.Nat.{ℕ, zero, suc}
+use mathlib.Core.Path.{_≡_, refl}
+use mathlib.Core.Bool.{Bool, true, false, _&&_, _||_, false≢true}
+use mathlib.Core.List.{List, [], _∷_}
+use borrow.Author.Tests.{eqb-true}
+use lib.Dec.{eqb}
+use lib.Ieee.{Float}
+use lib.Ieee.Scale.{finite}
+use Rattle.numbers.specs.Arithmetic.{if_then_else_}
+use Rattle.surfaces.specs.Types.{noMeridians, bothFinite}
+use Rattle.surfaces.specs.Told.{Told, Ended, gives, handedOut, lineOf, sagOf, ended}
+use Rattle.surfaces.specs.Snell.{reflected, reflectAnswer, bent, refracted, refractAnswer}
+use Rattle.surfaces.specs.Conic.{fromRadius, fromCurvature, conicSag, conicSagAnswer, gradientNormal, conicNormal, conicNormalAnswer, landedWithin, planeCrossing, firstOn, curvedCrossing, conicCrossing, normalAt, meetRule, meetAnswer}
+use Rattle.surfaces.specs.Newton.{Shape, going, arrivedAt, movedBy, passAt, passesFrom, newtonEnd, nextPass, limitedPass}
+use Rattle.surfaces.specs.Asphere.{edgeRoot, baseRoot, baseSlope, evenDepth, evenSlopeFrom, evenSlope, evenFacing, evenNormal, newEven, evenSagAnswer, evenSlopeAnswer, evenNormalAnswer, evenParaxial, evenCrossingAnswer, oddSag, oddSlope, oddNormal, newOdd, oddSagAnswer, oddNormalAnswer}
+use Rattle.surfaces.specs.Biconic.{biconicDepth, biconicSlopesAt, biconicSlopes, normalOf, biconicNormal, newBiconic, biconicSagAnswer, biconicSlopesAnswer, biconicNormalAnswer, biconicCrossingAnswer, biconicGood, biconicParaxial, circleDepth, toroidDepth, circleSlopes, toroidSlopes, toroidNormal, newToroid, toroidSagAnswer, toroidSlopesAnswer, toroidNormalAnswer, toroidCrossingAnswer}
+use Rattle.surfaces.specs.Surface.{familyOf, metAs, normalBy, passRule, surfaceNormal, onwardFrom, turnRule}
+use Rattle.surfaces.specs.Demand1.{oneOf, Only, Demand1}
+use Rattle.surfaces.specs.declared.types.Vec3.{Vec3}
+use Rattle.surfaces.specs.declared.types.Ray.{Ray}
+use Rattle.surfaces.specs.declared.types.Landing.{Landing}
+use Rattle.surfaces.specs.declared.types.Meridians.{Meridians}
+use Rattle.surfaces.specs.declared.types.Coefficients.{Coefficients}
+use Rattle.surfaces.specs.declared.refusal.Line.{Line}
+use Rattle.surfaces.specs.declared.refusal.Refusal.{Refusal}
+use Rattle.surfaces.specs.declared.refusal.Refusal.the-variants.{InvalidParameter, InvalidSurface, NumericalSingularity, GeometryOutsideAperture, RayMissedSurface, RayVignetted, TotalInternalReflection, NotFinite}
+use Rattle.surfaces.specs.declared.conic.ConicSurface.{ConicSurface}
+use Rattle.surfaces.specs.declared.biconic.BiconicSurface.{BiconicSurface}
+use Rattle.surfaces.specs.declared.surface.Family.{Family}
+use Rattle.surfaces.specs.declared.surface.Family.the-variants as family
+use Rattle.surfaces.specs.declared.surface.Kind.{Kind}
+use Rattle.surfaces.specs.declared.surface.Kind.the-variants.{Conic, Even, Biconic, Toroid}
+use Rattle.surfaces.specs.declared.surface.Surface.{Surface}
+use Rattle.surfaces.specs.declared.surface.Boundary.{Boundary}
+use Rattle.surfaces.specs.declared.surface.Boundary.the-variants.{Mirror, Media}
+use Rattle.surfaces.proofs.Choice.{either, both}
+
+-- whether all numbers of a list are among some
+abbrev pub every : (ℕ → Bool) → List ℕ → Bool
+every some [] = true
+every some (n ∷ l) = some n && every some l
+
+-- what holds of all numbers of a list holds of one of them
+pub each : (some : ℕ → Bool) (l : List ℕ) (n : ℕ) → every some l ≡ true → oneOf l n ≡ true → some n ≡ true
+unfolding oneOf
+each some [] n a h = absurd (false≢true h)
+each some (m ∷ l) n a h =
+    let (here, there) = both (some m) (every some l) a in
+    by (eqb n m) refl h here (λ r. each some l n there r)
+  where
+    by : (d : Bool) → eqb n m ≡ d → (d || oneOf l n) ≡ true → some m ≡ true → (oneOf l n ≡ true → some n ≡ true) → some n ≡ true
+    by true e h here next = rw (eqb-true n m e) here
+    by false e h here next = next h
+
+-- a line whose number is among some
+pub record Tells (some : ℕ → Bool) (t : Line) : Type 0 where
+  pub told : some (t .number) ≡ true
+
+-- all numbers of a list are among some
+pub record Has (some : ℕ → Bool) (l : List ℕ) : Type 0 where
+  pub all : every some l ≡ true
+
+-- a line whose number is one of a list, and so among any that have all of these
+abbrev pub Within : List ℕ → Line → Type 0
+Within l t = (some : ℕ → Bool) → Has some l → Tells some t
+
+grown : {l : List ℕ} {t : Line} → Tells (oneOf l) t → Within l t
+grown {l} {t} p some h = record { told = each some l (t .number) (h .all) (p .told) }
+
+only : {A : Type 0} (l : List ℕ) (x : Told A) → Tells (oneOf l) (x .line) → Only l x
+unfolding Only
+only l x p = p .told
+
+either-tells : {A : Type 0} (some : ℕ → Bool) (b : Bool) (x y : Told A) → Tells some (x .line) → Tells some (y .line) → Tells some ((if b then x else y) .line)
+either-tells some b x y p q = either (λ z. Tells some (z .line)) b x y p q
+
+either-ended : (some : ℕ → Bool) (b : Bool) (x y : Ended) → Tells some (x .answer .line) → Tells some (y .answer .line) → Tells some ((if b then x else y) .answer .line)
+either-ended some b x y p q = either (λ z. Tells some (z .answer .line)) b x y p q
+
+reflection : (i n : Vec3) → Within (1 ∷ 4 ∷ []) (reflected i n .line)
+unfolding reflected oneOf
+reflection i n = grown (search either-tells)
+
+refraction : (i n : Vec3) (n1 n2 : Float) → Within (1 ∷ 4 ∷ 8 ∷ []) (refracted i n n1 n2 .line)
+unfolding refracted bent oneOf
+refraction i n n1 n2 = grown (search either-tells)
+
+conic-normal : (p : Vec3) (s : ConicSurface) → Within (1 ∷ 4 ∷ 5 ∷ []) (conicNormal p s .line)
+unfolding conicNormal gradientNormal oneOf
+conic-normal p s = grown (search either-tells)
+
+landed : (t : Float) (p : Vec3) (r semi : Float) → Within (1 ∷ 7 ∷ []) (landedWithin t p r semi .line)
+unfolding landedWithin oneOf
+landed t p r semi = grown (search either-tells)
+
+first : (ray : Ray) (s : ConicSurface) (l : List Float) → Within (1 ∷ 6 ∷ 7 ∷ []) (firstOn ray s l .line)
+unfolding firstOn oneOf
+first ray s [] = grown (record { told = refl })
+first ray s (t ∷ l) = grown (search (either-tells, landed, first ray s l))
+
+pub crossed : (ray : Ray) (s : ConicSurface) → Within (1 ∷ 6 ∷ 7 ∷ []) (conicCrossing ray s .line)
+unfolding conicCrossing planeCrossing curvedCrossing oneOf
+crossed ray s = grown (search (either-tells, landed, first))
+
+-- the numbers with which Newton's method ends
+abbrev ends : List ℕ
+ends = 1 ∷ 4 ∷ 6 ∷ 7 ∷ []
+
+-- it ends where a pass does not go on
+unless-going : (x : Told Landing) (rest : Ended) (made : ℕ) (g : Bool) → going x ≡ g → Tells (oneOf (0 ∷ ends)) (x .line) → Tells (oneOf ends) (rest .answer .line) →
+    Tells (oneOf ends) ((if g then rest else ended x made) .answer .line)
+unfolding oneOf
+unless-going x rest made true e p r = r
+unless-going x rest made false e p r = record { told = rw e at (p .told) }
+
+module _ (q : Shape) (vertex : Float) (ray : Ray) where
+  pass-from : (t : Float) → Within (0 ∷ ends) (passAt q vertex ray t .line)
+  unfolding passAt movedBy arrivedAt oneOf
+  pass-from t = grown (search (either-tells, landed) depth 12)
+
+  passes : (left made : ℕ) (t : Float) → Tells (oneOf ends) (passesFrom q vertex ray left made t .answer .line)
+  unfolding passesFrom oneOf
+  passes zero made t = record { told = refl }
+  passes (suc left) made t = unless-going (passAt q vertex ray t) _ _ _ refl (search pass-from) (passes left (suc made) _)
+
+  newton : Within ends (newtonEnd q vertex ray .answer .line)
+  unfolding newtonEnd oneOf
+  newton = grown (search (either-ended, passes))
+
+edge-root : (x : Float) → Within (1 ∷ 5 ∷ []) (edgeRoot x .line)
+unfolding edgeRoot oneOf
+edge-root x = grown (search either-tells)
+
+even-slope : (c k : Float) (a : Coefficients) (r : Float) → Within (1 ∷ 2 ∷ 4 ∷ 5 ∷ []) (evenSlope c k a r .line)
+unfolding evenSlope evenSlopeFrom baseRoot baseSlope oneOf
+even-slope c k a r = grown (search (either-tells, edge-root) depth 8)
+
+biconic-slopes : (cx kx cy ky x y : Float) → Within (1 ∷ 4 ∷ 5 ∷ []) (biconicSlopes cx kx cy ky x y .line)
+unfolding biconicSlopes biconicSlopesAt oneOf
+biconic-slopes cx kx cy ky x y = grown (search (either-tells, edge-root))
+
+toroid-slopes : (rx cy ky x y : Float) → Within (1 ∷ 5 ∷ []) (toroidSlopes rx cy ky x y .line)
+unfolding toroidSlopes circleSlopes oneOf
+toroid-slopes rx cy ky x y = grown (search (either-tells, edge-root))
+
+normal : (k : Kind) (s : Surface) (p : Vec3) → Within (1 ∷ 2 ∷ 4 ∷ 5 ∷ []) (normalBy k s p .line)
+unfolding normalAt evenNormal evenFacing biconicNormal toroidNormal normalOf oneOf
+normal (Conic c k) s p = grown (search (either-tells, conic-normal))
+normal (Even c k) s p = grown (search (either-tells, even-slope))
+normal (Biconic cx kx cy ky) s p = grown (search (either-tells, biconic-slopes))
+normal (Toroid rx cy ky) s p = grown (search (either-tells, toroid-slopes))
+
+onward : (i n : Vec3) (b : Boundary) → Within (1 ∷ 4 ∷ 8 ∷ []) (onwardFrom i n b .line)
+unfolding onwardFrom oneOf
+onward i n Mirror = grown (search reflection)
+onward i n (Media n1 n2) = grown (search refraction)
+
+-- a pass, by how the surface is met
+abbrev pub passAs : Surface → Ray → ℕ → Float → Family → Told Landing
+passAs s ray made t f = metAs f s (λ q. conicCrossing ray q) (λ q. limitedPass q (s .vertex) ray made t)
+
+by-family : (s : Surface) (ray : Ray) (made : ℕ) (t : Float) (f : Family) → Tells (oneOf (0 ∷ ends)) (passAs s ray made t f .line)
+unfolding limitedPass nextPass oneOf
+by-family s ray made t (family.Conic c k) = search crossed
+by-family s ray made t (family.Newton q) = search (either-tells, pass-from)
+
+-- where all five numbers are finite, the first and the third are
+tested : (a b c d e : Bool) (m : Meridians) → Tells (oneOf (1 ∷ 2 ∷ [])) (handedOut 2 noMeridians (λ m. a && c) (a && b && c && d && e) (gives m) .line)
+unfolding oneOf
+tested true true true d e m = search either-tells
+tested true true false d e m = record { told = refl }
+tested true false c d e m = record { told = refl }
+tested false b c d e m = record { told = refl }
+
+paraxial : (s : BiconicSurface) → Tells (oneOf (1 ∷ 2 ∷ [])) (biconicParaxial s .line)
+unfolding biconicParaxial biconicGood bothFinite
+paraxial s = tested (finite (s .cx)) (finite (s .kx)) (finite (s .cy)) (finite (s .ky)) (finite (s .semi)) _
+
+line-of : (e : Refusal) → oneOf (2 ∷ 3 ∷ 4 ∷ 5 ∷ 6 ∷ 7 ∷ 8 ∷ 9 ∷ []) (lineOf e .number) ≡ true
+unfolding oneOf
+line-of InvalidParameter = refl
+line-of InvalidSurface = refl
+line-of NumericalSingularity = refl
+line-of GeometryOutsideAperture = refl
+line-of RayMissedSurface = refl
+line-of (RayVignetted r l) = refl
+line-of TotalInternalReflection = refl
+line-of NotFinite = refl
+
+ruleset tells = (only, either-tells, reflection, refraction, conic-normal, crossed, newton, edge-root, even-slope, biconic-slopes, toroid-slopes, normal, onward, by-family, paraxial)
+
+pub demand-1 : Demand1
+unfolding reflectAnswer refractAnswer fromRadius fromCurvature conicSag conicSagAnswer conicNormalAnswer normalAt meetRule meetAnswer sagOf baseRoot newEven evenDepth evenSagAnswer evenSlopeAnswer evenNormal evenFacing evenNormalAnswer evenParaxial evenCrossingAnswer newOdd oddSag oddSagAnswer oddSlope oddNormal oddNormalAnswer normalOf newBiconic biconicDepth biconicSagAnswer biconicSlopesAnswer biconicNormal biconicNormalAnswer biconicCrossingAnswer newToroid toroidDepth circleDepth toroidSagAnswer toroidSlopesAnswer toroidNormal toroidNormalAnswer toroidCrossingAnswer passRule surfaceNormal turnRule oneOf
+demand-1 = record {
+  reflect = search tells depth 10;
+  snell-refract = search tells depth 10;
+  from-radius = search tells depth 10;
+  from-curvature = search tells depth 10;
+  conic-sag = search tells depth 10;
+  conic-normal = search tells depth 10;
+  intersect-conic = search tells depth 10;
+  even-new = search tells depth 10;
+  even-sag = search tells depth 10;
+  even-radial-derivative = search tells depth 10;
+  even-normal = search tells depth 10;
+  even-paraxial-curvature = search tells depth 10;
+  even-intersect-ray = search tells depth 10;
+  odd-new = search tells depth 10;
+  odd-sag = search tells depth 10;
+  odd-normal = search tells depth 10;
+  biconic-new = search tells depth 10;
+  biconic-sag = search tells depth 10;
+  biconic-derivatives = search tells depth 10;
+  biconic-normal = search tells depth 10;
+  biconic-intersect-ray = search tells depth 10;
+  biconic-paraxial-curvatures = search tells depth 10;
+  toroid-new = search tells depth 10;
+  toroid-sag = search tells depth 10;
+  toroid-derivatives = search tells depth 10;
+  toroid-normal = search tells depth 10;
+  toroid-intersect-ray = search tells depth 10;
+  pass = search tells depth 10;
+  turn = search tells depth 10;
+  line-of = line-of;
+}

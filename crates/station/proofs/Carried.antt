@@ -3,17 +3,17 @@ use Prim.Native.Nat.{ℕ, _+_, _*_, _≤_, _<_}
 use mathlib.Core.Path.{_≡_, refl, sym, _∙_, ap}
 use mathlib.Core.Logic.{_⊎_, inl, inr}
 use mathlib.Core.List.{List, [], _∷_}
-use mathlib.Core.Bool.{Bool, true, false, _&&_, _||_}
+use mathlib.Core.Bool.{Bool, true, false}
 use native.Mathlib.Omega.{arith}
 use lib.ListN.{length, getD}
-use lib.Dec.{eqb, ltb, leb}
+use lib.Dec.{ltb, leb}
 use lib.Ieee.{Float}
-use borrow.Author.Tests.{ne-eqb, lt-ltb, le-ltb, eqb-true, leb-true}
+use borrow.Author.Tests.{ne-eqb, lt-ltb, le-ltb, leb-true}
 use Rattle.surfaces.specs.Types.{rayOf}
 use Rattle.surfaces.specs.Told.{stops}
 use Rattle.surfaces.specs.declared.types.Ray.{Ray}
-use Rattle.surfaces.proofs.Choice.{both}
 use Rattle.surfaces.proofs.Chains.{limit-bounds}
+use Rattle.surfaces.proofs.Demand1.{each}
 use Rattle.recipe.specs.Scan.{Item, Scan, refused, items, notes, nothing, itemAt}
 use Rattle.recipe.proofs.Records.{not-1}
 use Rattle.recipe.proofs.Scans.{Sound, scan-sound}
@@ -24,18 +24,14 @@ use Rattle.trace.specs.Trace.{mostRecords, Reply, recipeOf, itemsOf, blank, bea
 use Rattle.trace.specs.Ready.{Stands, walking, arrived, stopped}
 use Rattle.trace.specs.Demand3.{calls, Accepted, called}
 use Rattle.trace.proofs.Fits.{fits-fit}
+use Rattle.trace.proofs.Unfits.{outcomes, stops-listed}
 use Rattle.trace.proofs.Starts.{Admitted}
 use Rattle.trace.proofs.Demand3.{sound, call, admitted-start, started}
 use Rattle.station.specs.Lent.{passesIn, outcomeIn, stateIn, countsOf, numbersOf, Left, left, told, toldIfAccepted, continued}
 use Rattle.station.specs.Carried.{scans, Beyond, unfit, Carried}
 
 at-most-9 : (n : ℕ) → stops n ≡ true → n ≤ 9
-unfolding stops
-at-most-9 n h = by (eqb n 2) refl h
-  where
-    by : (t : Bool) → eqb n 2 ≡ t → (t || (leb 4 n && leb n 9)) ≡ true → n ≤ 9
-    by true e h = omega (arith, eqb-true n 2 e)
-    by false e h = leb-true n 9 (both (leb 4 n) _ h .1)
+at-most-9 n h = leb-true n 9 (each (λ (k : ℕ). leb k 9) outcomes n refl (stops-listed n h))
 
 -- what stands on a recipe has small counts
 small : (l : List Item) (s : State) → Stands l s → (s .passes < 35) × (s .outcome ≤ 9)

@@ -1,5 +1,6 @@
 -- Tests: what holds of both answers of one holds of its answer, and what `and` and `or` say of theirs. Assumes nothing.
 use mathlib.Core.Path.{_≡_, refl}
+use mathlib.Core.Logic.{_⊎_, inl, inr}
 use mathlib.Core.Bool.{Bool, true, false, not, _&&_, _||_, true≢false, false≢true}
 use Rattle.numbers.specs.Arithmetic.{if_then_else_}
 
@@ -10,6 +11,10 @@ either P false x y p q = q
 pub both : (a b : Bool) → (a && b) ≡ true → (a ≡ true) × (b ≡ true)
 both true b h = (refl, h)
 both false b h = absurd (false≢true h)
+
+pub one-false : (a b : Bool) → (a && b) ≡ false → (a ≡ false) ⊎ (b ≡ false)
+one-false true b h = inr h
+one-false false b h = inl refl
 
 pub nor : (a b : Bool) → (not a || b) ≡ false → (a ≡ true) × (b ≡ false)
 nor true false h = (refl, refl)

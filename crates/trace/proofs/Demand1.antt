@@ -16,6 +16,7 @@ use Rattle.surfaces.specs.Types.{rayFinite}
 use Rattle.surfaces.specs.Demand1.{oneOf}
 use Rattle.surfaces.specs.declared.types.Ray.{Ray}
 use Rattle.surfaces.proofs.Choice.{either}
+use Rattle.surfaces.proofs.Demand1.{each}
 use Rattle.recipe.specs.Scan.{Item, Scan, refused, items, scan, notes, nothing, itemsIn}
 use Rattle.recipe.specs.Source.{sourceBytes, sourceOf}
 use Rattle.recipe.proofs.Records.{Refuses}
@@ -26,7 +27,7 @@ use Rattle.trace.specs.State.{held, advance, fitsOf}
 use Rattle.trace.specs.Trace.{mostRecords, Reply, reply, recipeOf, itemsOf, blank, refusedAnswer, refusedReply, admission, admitted, startAt, startOf, startFileOf, accept, continueOn, continueOf, wholeOf}
 use Rattle.trace.specs.Demand1.{GoodUpTo, none, more, Answers, Blanked, Unchanged, Refused12, Unfit, Demand1}
 use Rattle.trace.proofs.Starts.{no-items}
-use Rattle.trace.proofs.Unfits.{each, unfit, fits-all}
+use Rattle.trace.proofs.Unfits.{unfit, fits-all}
 
 -- a start's numbers, and a continuation's
 abbrev begun : List ℕ

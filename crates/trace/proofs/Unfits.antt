@@ -1,7 +1,7 @@
 -- Which states do not fit a recipe: the test says no exactly if one of document 01's conditions holds. Assumes nothing.
 use Prim.Native.Nat.{ℕ, zero, suc, _+_, _≤_, _<_}
 use mathlib.Core.Path.{_≡_, refl, sym, _∙_, subst}
-use mathlib.Core.Logic.{_≢_, _⊎_, inl, inr, ⊎-elim}
+use mathlib.Core.Logic.{_≢_, ⊎-elim}
 use mathlib.Core.List.{List, [], _∷_}
 use mathlib.Core.Bool.{Bool, true, false, not, _&&_, _||_, false≢true, true≢false}
 use native.Mathlib.Omega.{arith}
@@ -14,8 +14,9 @@ use Rattle.surfaces.specs.Types.{rayFinite}
 use Rattle.surfaces.specs.Told.{stops}
 use Rattle.surfaces.specs.Demand1.{oneOf}
 use Rattle.surfaces.specs.Surface.{limitOf}
-use Rattle.surfaces.proofs.Choice.{both, or-else}
+use Rattle.surfaces.proofs.Choice.{both, one-false, or-else}
 use Rattle.surfaces.proofs.Chains.{limit-bounds}
+use Rattle.surfaces.proofs.Demand1.{each}
 use Rattle.recipe.specs.declared.scan.Checked.{Checked}
 use Rattle.recipe.specs.Scan.{Item, itemAt, placeOf, notes, nothing, sumLimits}
 use Rattle.recipe.proofs.Chain.{place-at, place-end}
@@ -25,27 +26,8 @@ use Rattle.trace.specs.Ready.{Stands, walking, arrived, stopped, Fit}
 use Rattle.trace.specs.Demand1.{Unfit, outcome-unknown, number-not-count, place-not-end, place-not-start, number-without-record, passes-at-limit, passes-once-ended, steps-above-limits, ray-not-finite, path-not-finite, index-not-finite, index-not-positive}
 use Rattle.trace.proofs.Fits.{good-beam, stops-known, count-is, limits-is, found-is, fits-fit, few-steps}
 
-one-false : (a b : Bool) → (a && b) ≡ false → (a ≡ false) ⊎ (b ≡ false)
-one-false true b h = inr h
-one-false false b h = inl refl
-
-abbrev every : (ℕ → Bool) → List ℕ → Bool
-every some [] = true
-every some (n ∷ l) = some n && every some l
-
--- what holds of every number of a list holds of each
-pub each : (some : ℕ → Bool) (l : List ℕ) (n : ℕ) → every some l ≡ true → oneOf l n ≡ true → some n ≡ true
-unfolding oneOf
-each some [] n a h = absurd (false≢true h)
-each some (m ∷ l) n a h =
-    let (here, there) = both (some m) (every some l) a in
-    by (eqb n m) refl h here (λ r. each some l n there r)
-  where
-    by : (d : Bool) → eqb n m ≡ d → (d || oneOf l n) ≡ true → some m ≡ true → (oneOf l n ≡ true → some n ≡ true) → some n ≡ true
-    by true e h here next = rw (eqb-true n m e) here
-    by false e h here next = next h
-
-abbrev outcomes : List ℕ
+-- the outcomes that document 01 names
+abbrev pub outcomes : List ℕ
 outcomes = 0 ∷ 1 ∷ 2 ∷ 4 ∷ 5 ∷ 6 ∷ 7 ∷ 8 ∷ 9 ∷ []
 
 -- an outcome that is not known is not of the list
@@ -72,7 +54,7 @@ from-has k (suc m) n a b = by (eqb n k) refl (λ h. from-has (suc k) m n (omega 
     by false e later = later (eqb-false n k e)
 
 -- a number that stops is of the list
-stops-listed : (n : ℕ) → stops n ≡ true → oneOf outcomes n ≡ true
+pub stops-listed : (n : ℕ) → stops n ≡ true → oneOf outcomes n ≡ true
 unfolding stops oneOf
 stops-listed n h = by (eqb n 2) refl h
   where

@@ -1,8 +1,8 @@
--- What `root` says, proved: `floor-is` of `Roots.antt`, and here that no binary64 lies nearer to √x than `root x` (`none-nearer`), that no tie arises (`no-tie`), that only one value is nearest (`only-one`) and how near to x the square of `root x` is (`root-squared`). Assumes nothing.
-use mathlib.Core.Path.{_≡_, sym, ap, _∙_, subst}
+-- What `root` says, proved: `floor-is` of `Roots.antt`, and here that `units` is exact (`units-exact`), that no binary64 lies nearer to √x than `root x` (`none-nearer`), that no tie arises (`no-tie`), that only one value is nearest (`only-one`) and how near to x the square of `root x` is (`root-squared`). Assumes nothing.
+use mathlib.Core.Path.{_≡_, refl, sym, ap, _∙_, subst}
 use mathlib.Core.Logic.{_⊎_, inl, inr, ⊎-elim}
 use Prim.Native.Nat.{ℕ, zero, suc, _+_, _-_, _*_, _/_, _%_, _^_, _≤_, _<_}
-use native.Mathlib.Nat.{add-comm, le-of-lt, ne-of-lt, lt-of-not-le, lt-of-lt-of-le, mul-le-mul, mul-le-mul-right, mul-lt-mul-of-pos-right, mul-pos, div-eq-of-eq-mul-left, zero-mul, zero-div, div-one, not-le-of-lt}
+use native.Mathlib.Nat.{add-comm, le-of-lt, ne-of-lt, lt-of-not-le, lt-of-lt-of-le, mul-le-mul, mul-le-mul-right, mul-lt-mul-of-pos-right, mul-pos, mul-one, zero-mul, not-le-of-lt}
 use native.Mathlib.Decide.{decLe}
 use native.Mathlib.Omega.{arith}
 use mathlib.Core.Bool.{true, false, _&&_}
@@ -13,8 +13,9 @@ use lib.Ieee.{Float, nan, inf, fin, binary64, up, down, size, fits, odd, ofBits,
 use lib.Ieee.Bits.{ofBits-toBits, ofBits-fits}
 use lib.Ieee.Fits.{and-l, and-r}
 use lib.Ieee.Positive.{positive-finite, positive-of-value}
-use lib.Ieee.Exact.{odd-sign}
-use Rattle.numbers.specs.Sqrt.{units, root, Number, AboveZero, rootUnits, twiceRoot², twiceMidpoint², NoneNearer, NoTie, OnlyOne}
+use lib.Ieee.Exact.{HasValue, odd-sign}
+use Rattle.numbers.specs.Basic.{negative}
+use Rattle.numbers.specs.Sqrt.{units, root, Number, AboveZero, rootUnits, twiceRoot², twiceMidpoint², UnitsExact, NoneNearer, NoTie, OnlyOne}
 use Rattle.numbers.specs.Parts.{Near, patternUnits}
 use Rattle.numbers.proofs.Patterns.{pattern}
 use Rattle.numbers.proofs.Roots.{before, nearest-of, long, short}
@@ -35,24 +36,30 @@ regroup m P a b e = omega (arith, ap (λ (y : ℕ). m * y) e)
 shift : (m a b c : ℕ) → a * b ≡ c → m * a * b ≡ m * c
 shift m a b c e = omega (arith, ap (λ (y : ℕ). m * y) e)
 
-place : (m : ℕ) (e : ℤ) → down e ≤ 2 ^ 1074 → (j : ℕ) × (m * up e * 2 ^ 1074 / down e ≡ m * 2 ^ j)
-place m (pos a) h = (a + 1074, div-one (m * 2 ^ a * 2 ^ 1074) ∙ shift m (2 ^ a) (2 ^ 1074) (2 ^ (a + 1074)) (sym (pow-add 2 a 1074)))
+place : (m : ℕ) (e : ℤ) → down e ≤ 2 ^ 1074 → (j : ℕ) × (m * up e * 2 ^ 1074 ≡ m * 2 ^ j * down e)
+place m (pos a) h = (a + 1074, shift m (2 ^ a) (2 ^ 1074) (2 ^ (a + 1074)) (sym (pow-add 2 a 1074)) ∙ sym (mul-one (m * 2 ^ (a + 1074))))
 place m (negsuc a) h =
     let l : suc a ≤ 1074 = back (suc a) 1074 h in
-    (1074 - suc a, div-eq-of-eq-mul-left (pow-pos (suc a)) (regroup m (2 ^ 1074) (2 ^ (1074 - suc a)) (2 ^ suc a) (join (1074 - suc a) (suc a) 1074 (omega arith))))
+    (1074 - suc a, regroup m (2 ^ 1074) (2 ^ (1074 - suc a)) (2 ^ suc a) (join (1074 - suc a) (suc a) 1074 (omega arith)))
 
-split : (x : Float) → Number x → (m : ℕ) × (j : ℕ) × (m < 2 ^ 53) × (units x ≡ m * 2 ^ j)
-unfolding units fits
+pub split : (x : Float) → Number x → (m : ℕ) × (j : ℕ) × (m < 2 ^ 53) × HasValue x (negative x) (m * 2 ^ j) (2 ^ 1074)
+unfolding fits negative
 split nan (h, f) = absurd f
 split (inf s) (h, f) = absurd f
-split (fin s zero e) (h, f) = (0, 0, omega arith, simp (zero-mul, zero-div))
+split (fin s zero e) (h, f) = (0, 0, omega arith, (refl, simp zero-mul))
 split (fin s (suc m) e) (h, f) =
     let A = eqb (suc m % 2) 1 in
     let B = ltb (suc m) (2 ^ 53) in
     let C = leb (down e) (2 ^ 1074) in
     let ABC = and-l (A && B && C) (ltb (suc m * up e) (2 ^ 1024 * down e)) h in
     let p = place (suc m) e (leb→le (down e) (2 ^ 1074) (and-r (A && B) C ABC)) in
-    (suc m, p .0, ltb→lt (suc m) (2 ^ 53) (and-r A B (and-l (A && B) C ABC)), p .1)
+    (suc m, p .0, ltb→lt (suc m) (2 ^ 53) (and-r A B (and-l (A && B) C ABC)), (refl, p .1))
+
+pub units-split : (x : Float) (h : Number x) → units x ≡ split x h .0 * 2 ^ (split x h .1)
+units-split x h = units-of x (negative x) _ (split x h .3)
+
+pub units-exact : UnitsExact
+units-exact x h = rw (units-split x h) (split x h .3)
 
 -- ---- no value of the format lies between o * 2 ^ k and (o + 1) * 2 ^ k, for an o of 53 digits
 
@@ -106,7 +113,7 @@ module _ (x r : Float) (n q k : ℕ) (h : Near n q) (lo : 2 ^ 104 ≤ n) (l : 2 
   squares = e ∙ ap (λ (y : ℕ). n * y) (join k k (2 * k) (omega arith))
 
   beside : (o : ℕ) → 2 ^ 52 ≤ o → (y : Float) → Number y → (units y ≤ o * 2 ^ k) ⊎ ((o + 1) * 2 ^ k ≤ units y)
-  beside o i y f = let p = split y f in rw (p .3) (gap o k (p .0) (p .1) i (p .2))
+  beside o i y f = let p = split y f in rw (units-split y f) (gap o k (p .0) (p .1) i (p .2))
 
   above : (y : Float) → Number y → units r < units y → twiceRoot² x < twiceMidpoint² y r
   above y f d = ⊎-elim
@@ -137,7 +144,7 @@ number q k l lo hi =
     let v = odd-sign 53 false q k 1074 in
     let f = rw (pattern k q l lo hi .1) at (ofBits-fits binary64 (k * 2 ^ 52 + q)) in
     let g = positive-of-value (odd 53 false q k 1074) (q * 2 ^ k) (2 ^ 1074) v (mul-pos (lt-of-lt-of-le (pow-pos 52) lo) (pow-pos k)) in
-    (units-of (odd 53 false q k 1074) (q * 2 ^ k) v, (f, g))
+    (units-of (odd 53 false q k 1074) false (q * 2 ^ k) v, (f, g))
 
 scaled : (x : Float) (b m k : ℕ) → units x ≡ patternUnits b → Scale b m k → Nearer x (rootUnits (units x))
 scaled x b m k u s =

@@ -5,7 +5,7 @@ use Prim.Native.Nat.{ℕ, suc, _+_, _-_, _*_, _/_, _%_, _^_, _≤_, _<_}
 use native.Mathlib.Nat.{eq-zero-or-pos, lt-of-not-le, mod-eq-of-lt, mul-div-cancel, mul-right-comm, mul-le-mul-right, mul-lt-mul-of-pos-right, div-lt-iff-lt-mul}
 use native.Mathlib.Decide.{decLe}
 use native.Mathlib.Omega.{arith}
-use mathlib.Core.Bool.{false, _&&_}
+use mathlib.Core.Bool.{Bool, false, _&&_}
 use lib.IntN.{ℤ}
 use lib.Dec.{T, leb, ltb, eqb, ltb→lt}
 use lib.Pow.{pow-add, pow-pos, pow-mono}
@@ -20,33 +20,30 @@ use Rattle.numbers.specs.Parts.{patternUnits}
 use Rattle.numbers.proofs.Patterns.{normal, subnormal}
 use Rattle.numbers.proofs.Scale.{Digits}
 
-pub units-of : (x : Float) (a : ℕ) → HasValue x false a (2 ^ 1074) → units x ≡ a
+pub units-of : (x : Float) (s : Bool) (a : ℕ) → HasValue x s a (2 ^ 1074) → units x ≡ a
 unfolding units
-units-of nan a v = absurd v
-units-of (inf s) a v = absurd v
-units-of (fin s m e) a v = ap (λ (y : ℕ). y / down e) (v .1) ∙ mul-div-cancel a (down-pos e)
+units-of nan s a v = absurd v
+units-of (inf t) s a v = absurd v
+units-of (fin t m e) s a v = ap (λ (y : ℕ). y / down e) (v .1) ∙ mul-div-cancel a (down-pos e)
 
 low-units : (b : ℕ) → b < 2 ^ 52 → patternUnits b ≡ b * 1
 low-units b h = let z : b / 2 ^ 52 - 1 ≡ 0 = omega arith in rw z (omega arith)
 
--- A number whose pattern lies below infinity's is the pattern's units over 2 ^ 1074.
+-- The units of a number whose pattern lies below infinity's.
 module _ (x : Float) (h : T (fits binary64 x)) where
-  read : (q k : ℕ) → ofBits binary64 (toBits binary64 x) ≡ odd 53 false q k 1074 → HasValue x false (q * 2 ^ k) (2 ^ 1074)
-  read q k e = subst (λ (y : Float). HasValue y false (q * 2 ^ k) (2 ^ 1074)) (sym e ∙ ofBits-toBits binary64 x h) (odd-sign 53 false q k 1074)
+  read : (q k : ℕ) → ofBits binary64 (toBits binary64 x) ≡ odd 53 false q k 1074 → units x ≡ q * 2 ^ k
+  read q k e = units-of x false (q * 2 ^ k) (subst (λ (y : Float). HasValue y false (q * 2 ^ k) (2 ^ 1074)) (sym e ∙ ofBits-toBits binary64 x h) (odd-sign 53 false q k 1074))
 
-  pub value-pattern : toBits binary64 x < 0x7ff0_0000_0000_0000 → HasValue x false (patternUnits (toBits binary64 x)) (2 ^ 1074)
-  value-pattern u = go (toBits binary64 x) u read (decLe (2 ^ 52) (toBits binary64 x))
+  pub units-pattern : toBits binary64 x < 0x7ff0_0000_0000_0000 → units x ≡ patternUnits (toBits binary64 x)
+  units-pattern u = go (toBits binary64 x) u read (decLe (2 ^ 52) (toBits binary64 x))
     where
-      go : (b : ℕ) → b < 0x7ff0_0000_0000_0000 → ((q k : ℕ) → ofBits binary64 b ≡ odd 53 false q k 1074 → HasValue x false (q * 2 ^ k) (2 ^ 1074)) → Dec (2 ^ 52 ≤ b) → HasValue x false (patternUnits b) (2 ^ 1074)
+      go : (b : ℕ) → b < 0x7ff0_0000_0000_0000 → ((q k : ℕ) → ofBits binary64 b ≡ odd 53 false q k 1074 → units x ≡ q * 2 ^ k) → Dec (2 ^ 52 ≤ b) → units x ≡ patternUnits b
       go b u r (yes l) = let e : b - (b / 2 ^ 52 - 1) * 2 ^ 52 ≡ 2 ^ 52 + b % 2 ^ 52 = omega arith in rw e (r (2 ^ 52 + b % 2 ^ 52) (b / 2 ^ 52 - 1) (normal b u l))
       go b u r (no l) = let t = lt-of-not-le l in rw (low-units b t) (r b 0 (subnormal b u t))
 
-  pub units-pattern : toBits binary64 x < 0x7ff0_0000_0000_0000 → units x ≡ patternUnits (toBits binary64 x)
-  units-pattern u = units-of x (patternUnits (toBits binary64 x)) (value-pattern u)
-
 -- The pattern of a number above zero is neither 0 nor as high as infinity's.
 module _ (m : ℕ) (e : ℤ) (h : T (fits binary64 (fin false (suc m) e))) where
-  units-lt : suc m * up e * 2 ^ 1074 / down e < 2 ^ 2098
+  pub units-lt : suc m * up e * 2 ^ 1074 / down e < 2 ^ 2098
   unfolding fits
   units-lt =
       let c = ltb→lt (suc m * up e) (2 ^ 1024 * down e) (and-r (eqb (suc m % 2) 1 && ltb (suc m) (2 ^ 53) && leb (down e) (2 ^ 1074)) (ltb (suc m * up e) (2 ^ 1024 * down e)) h) in

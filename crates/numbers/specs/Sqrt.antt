@@ -5,8 +5,10 @@ use mathlib.Core.Bool.{true, false}
 use lib.Dec.{T, leb}
 use lib.Ieee.{Float, nan, inf, fin, up, down, size, nearest, odd, fits, toBits, binary64}
 use lib.Ieee.Scale.{finite}
+use lib.Ieee.Exact.{HasValue}
 use lib.Ieee.Positive.{positive}
 use Rattle.numbers.specs.Arithmetic.{if_then_else_}
+use Rattle.numbers.specs.Basic.{negative}
 
 -- ---- the rule
 
@@ -59,6 +61,11 @@ Number y = T (fits binary64 y) × T (finite y)
 
 abbrev pub AboveZero : Float → Type 0
 AboveZero x = T (fits binary64 x) × T (positive x)
+
+-- `units` is exact: every finite binary64, zeros and subnormal numbers among them, is `units x` / 2 ^ 1074, with its own sign.
+-- (`HasValue x s a c`: x is finite, has the sign s, and is a / c in size.)
+abbrev pub UnitsExact : Type 0
+UnitsExact = (x : Float) → Number x → HasValue x (negative x) (units x) (2 ^ 1074)
 
 -- Twice √x and twice the midpoint of y and r, both squared, in squares of the unit.
 abbrev pub twiceRoot² : Float → ℕ

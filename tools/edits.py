@@ -1,0 +1,81 @@
+"""Wrong programs: edits of a crate that its check must refuse, one to a file, read and applied as the gate does.
+
+    # what the wrong program is
+    # refused: how the check's first error begins
+    file: src/root.rt
+    old: a text that the file has once
+    new: what stands there instead
+
+A file holds for the pairs after it, and a pair meets what those before it have left.
+"""
+from pathlib import Path
+from typing import List, NamedTuple
+
+TOP = Path(__file__).resolve().parent.parent
+HEAD = ("# ", "# refused: ")
+ROOMS = ("src/", "specs/")
+
+
+class Unfit(Exception):
+    """Why a file is no wrong program."""
+
+
+class Change(NamedTuple):
+    file: str
+    old: str
+    new: str
+
+
+class Edit(NamedTuple):
+    """What it is and how it is refused are empty where there is no head."""
+
+    name: str
+    what: str
+    refused: str
+    changes: List[Change]
+
+
+def crates(top=TOP):
+    """The names of those that have edits."""
+    return sorted({path.parent.parent.name for path in top.glob("crates/*/must-fail/*.edit")}
+                  | {path.parent.name for path in top.glob("docs/wrong/*/*.edit")})
+
+
+def files(crate, top=TOP):
+    """Those of the gate first."""
+    return sorted(top.glob(f"crates/{crate}/must-fail/*.edit")) + sorted(top.glob(f"docs/wrong/{crate}/*.edit"))
+
+
+def read(path):
+    lines = path.read_text(encoding="utf-8").splitlines()
+    head = ["", ""]
+    if len(lines) > 1 and lines[0].startswith(HEAD[0]) and lines[1].startswith(HEAD[1]):
+        head = [line[len(sign):] for line, sign in zip(lines, HEAD)]
+        lines = lines[2:]
+    changes, file, old = [], "", ""
+    for line in lines:
+        word, _, text = line.partition(" ")
+        if word == "file:":
+            file = text
+        elif word == "old:":
+            old = text
+        elif word == "new:":
+            changes.append(Change(file, old, text))
+        else:
+            raise Unfit(f"{path.stem}: {line!r} is no part of an edit")
+    return Edit(path.stem, *head, changes)
+
+
+def changed(edit, crate):
+    """The files of the crate's folder that the edit changes, by name, as it leaves them."""
+    texts = {}
+    for file, old, new in edit.changes:
+        if not file.startswith(ROOMS) or ".." in file or not (crate / file).is_file():
+            raise Unfit(f"{edit.name}: {file!r} is no file of src/ or specs/")
+        text = texts.get(file) or (crate / file).read_text(encoding="utf-8")
+        if not old or text.count(old) != 1:
+            raise Unfit(f"{edit.name}: {file} does not have this once: {old!r}")
+        texts[file] = text.replace(old, new)
+    if not texts:
+        raise Unfit(f"{edit.name}: it changes nothing")
+    return texts

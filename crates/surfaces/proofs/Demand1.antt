@@ -15,7 +15,7 @@ use Rattle.surfaces.specs.Conic.{fromRadius, fromCurvature, conicSag, co
 use Rattle.surfaces.specs.Newton.{Shape, going, arrivedAt, movedBy, passAt, passesFrom, newtonEnd, nextPass, limitedPass}
 use Rattle.surfaces.specs.Asphere.{edgeRoot, baseRoot, baseSlope, evenDepth, evenSlopeFrom, evenSlope, evenFacing, evenNormal, newEven, evenSagAnswer, evenSlopeAnswer, evenNormalAnswer, evenParaxial, evenCrossingAnswer, oddSag, oddSlope, oddNormal, newOdd, oddSagAnswer, oddNormalAnswer}
 use Rattle.surfaces.specs.Biconic.{biconicDepth, biconicSlopesAt, biconicSlopes, normalOf, biconicNormal, newBiconic, biconicSagAnswer, biconicSlopesAnswer, biconicNormalAnswer, biconicCrossingAnswer, biconicGood, biconicParaxial, circleDepth, toroidDepth, circleSlopes, toroidSlopes, toroidNormal, newToroid, toroidSagAnswer, toroidSlopesAnswer, toroidNormalAnswer, toroidCrossingAnswer}
-use Rattle.surfaces.specs.Surface.{familyOf, metAs, normalBy, passRule, surfaceNormal, onwardFrom, turnRule}
+use Rattle.surfaces.specs.Surface.{metAs, normalBy, passRule, surfaceNormal, onwardFrom, turnRule}
 use Rattle.surfaces.specs.Demand1.{oneOf, Only, Demand1}
 use Rattle.surfaces.specs.declared.types.Vec3.{Vec3}
 use Rattle.surfaces.specs.declared.types.Ray.{Ray}
@@ -36,72 +36,73 @@ use Rattle.surfaces.specs.declared.surface.Boundary.{Boundary}
 use Rattle.surfaces.specs.declared.surface.Boundary.the-variants.{Mirror, Media}
 use Rattle.surfaces.proofs.Choice.{either, both}
 
--- whether all numbers of a list are among some
+-- whether all numbers of a list pass a test
 abbrev pub every : (ℕ → Bool) → List ℕ → Bool
-every some [] = true
-every some (n ∷ l) = some n && every some l
+every test [] = true
+every test (n ∷ l) = test n && every test l
 
--- what holds of all numbers of a list holds of one of them
-pub each : (some : ℕ → Bool) (l : List ℕ) (n : ℕ) → every some l ≡ true → oneOf l n ≡ true → some n ≡ true
+-- what all numbers of a list pass, one of them passes
+pub each : (test : ℕ → Bool) (l : List ℕ) (n : ℕ) → every test l ≡ true → oneOf l n ≡ true → test n ≡ true
 unfolding oneOf
-each some [] n a h = absurd (false≢true h)
-each some (m ∷ l) n a h =
-    let (here, there) = both (some m) (every some l) a in
-    by (eqb n m) refl h here (λ r. each some l n there r)
+each test [] n a h = absurd (false≢true h)
+each test (m ∷ l) n a h =
+    let (here, there) = both (test m) (every test l) a in
+    by (eqb n m) refl h here (λ r. each test l n there r)
   where
-    by : (d : Bool) → eqb n m ≡ d → (d || oneOf l n) ≡ true → some m ≡ true → (oneOf l n ≡ true → some n ≡ true) → some n ≡ true
+    by : (d : Bool) → eqb n m ≡ d → (d || oneOf l n) ≡ true → test m ≡ true → (oneOf l n ≡ true → test n ≡ true) → test n ≡ true
     by true e h here next = rw (eqb-true n m e) here
     by false e h here next = next h
 
--- a line whose number is among some
-pub record Tells (some : ℕ → Bool) (t : Line) : Type 0 where
-  pub told : some (t .number) ≡ true
+-- a line whose number passes a test
+pub record Tells (test : ℕ → Bool) (t : Line) : Type 0 where
+  pub told : test (t .number) ≡ true
 
--- all numbers of a list are among some
-pub record Has (some : ℕ → Bool) (l : List ℕ) : Type 0 where
-  pub all : every some l ≡ true
+-- a test that all numbers of a list pass
+pub record Passed (test : ℕ → Bool) (l : List ℕ) : Type 0 where
+  pub by-all : every test l ≡ true
 
--- a line whose number is one of a list, and so among any that have all of these
+-- a line whose number is one of a list, and so passes whatever all of these pass: a longer list, for one
 abbrev pub Within : List ℕ → Line → Type 0
-Within l t = (some : ℕ → Bool) → Has some l → Tells some t
+Within l t = (test : ℕ → Bool) → Passed test l → Tells test t
 
-grown : {l : List ℕ} {t : Line} → Tells (oneOf l) t → Within l t
-grown {l} {t} p some h = record { told = each some l (t .number) (h .all) (p .told) }
+within : {l : List ℕ} {t : Line} → Tells (oneOf l) t → Within l t
+within {l} {t} p test h = record { told = each test l (t .number) (h .by-all) (p .told) }
 
 only : {A : Type 0} (l : List ℕ) (x : Told A) → Tells (oneOf l) (x .line) → Only l x
 unfolding Only
 only l x p = p .told
 
-either-tells : {A : Type 0} (some : ℕ → Bool) (b : Bool) (x y : Told A) → Tells some (x .line) → Tells some (y .line) → Tells some ((if b then x else y) .line)
-either-tells some b x y p q = either (λ z. Tells some (z .line)) b x y p q
+-- an answer that goes by a test; `after`, `checked9`, `handedOut` and `accepted` are such too
+either-tells : {A : Type 0} (test : ℕ → Bool) (b : Bool) (x y : Told A) → Tells test (x .line) → Tells test (y .line) → Tells test ((if b then x else y) .line)
+either-tells test b x y p q = either (λ z. Tells test (z .line)) b x y p q
 
-either-ended : (some : ℕ → Bool) (b : Bool) (x y : Ended) → Tells some (x .answer .line) → Tells some (y .answer .line) → Tells some ((if b then x else y) .answer .line)
-either-ended some b x y p q = either (λ z. Tells some (z .answer .line)) b x y p q
+either-ended : (test : ℕ → Bool) (b : Bool) (x y : Ended) → Tells test (x .answer .line) → Tells test (y .answer .line) → Tells test ((if b then x else y) .answer .line)
+either-ended test b x y p q = either (λ z. Tells test (z .answer .line)) b x y p q
 
 reflection : (i n : Vec3) → Within (1 ∷ 4 ∷ []) (reflected i n .line)
 unfolding reflected oneOf
-reflection i n = grown (search either-tells)
+reflection i n = within (search either-tells)
 
 refraction : (i n : Vec3) (n1 n2 : Float) → Within (1 ∷ 4 ∷ 8 ∷ []) (refracted i n n1 n2 .line)
 unfolding refracted bent oneOf
-refraction i n n1 n2 = grown (search either-tells)
+refraction i n n1 n2 = within (search either-tells)
 
 conic-normal : (p : Vec3) (s : ConicSurface) → Within (1 ∷ 4 ∷ 5 ∷ []) (conicNormal p s .line)
 unfolding conicNormal gradientNormal oneOf
-conic-normal p s = grown (search either-tells)
+conic-normal p s = within (search either-tells)
 
 landed : (t : Float) (p : Vec3) (r semi : Float) → Within (1 ∷ 7 ∷ []) (landedWithin t p r semi .line)
 unfolding landedWithin oneOf
-landed t p r semi = grown (search either-tells)
+landed t p r semi = within (search either-tells)
 
 first : (ray : Ray) (s : ConicSurface) (l : List Float) → Within (1 ∷ 6 ∷ 7 ∷ []) (firstOn ray s l .line)
 unfolding firstOn oneOf
-first ray s [] = grown (record { told = refl })
-first ray s (t ∷ l) = grown (search (either-tells, landed, first ray s l))
+first ray s [] = within (record { told = refl })
+first ray s (t ∷ l) = within (search (either-tells, landed, first ray s l))
 
 pub crossed : (ray : Ray) (s : ConicSurface) → Within (1 ∷ 6 ∷ 7 ∷ []) (conicCrossing ray s .line)
 unfolding conicCrossing planeCrossing curvedCrossing oneOf
-crossed ray s = grown (search (either-tells, landed, first))
+crossed ray s = within (search (either-tells, landed, first))
 
 -- the numbers with which Newton's method ends
 abbrev ends : List ℕ
@@ -117,7 +118,7 @@ unless-going x rest made false e p r = record { told = rw e at (p .told) }
 module _ (q : Shape) (vertex : Float) (ray : Ray) where
   pass-from : (t : Float) → Within (0 ∷ ends) (passAt q vertex ray t .line)
   unfolding passAt movedBy arrivedAt oneOf
-  pass-from t = grown (search (either-tells, landed) depth 12)
+  pass-from t = within (search (either-tells, landed) depth 12)
 
   passes : (left made : ℕ) (t : Float) → Tells (oneOf ends) (passesFrom q vertex ray left made t .answer .line)
   unfolding passesFrom oneOf
@@ -126,35 +127,35 @@ module _ (q : Shape) (vertex : Float) (ray : Ray) where
 
   newton : Within ends (newtonEnd q vertex ray .answer .line)
   unfolding newtonEnd oneOf
-  newton = grown (search (either-ended, passes))
+  newton = within (search (either-ended, passes))
 
 edge-root : (x : Float) → Within (1 ∷ 5 ∷ []) (edgeRoot x .line)
 unfolding edgeRoot oneOf
-edge-root x = grown (search either-tells)
+edge-root x = within (search either-tells)
 
 even-slope : (c k : Float) (a : Coefficients) (r : Float) → Within (1 ∷ 2 ∷ 4 ∷ 5 ∷ []) (evenSlope c k a r .line)
 unfolding evenSlope evenSlopeFrom baseRoot baseSlope oneOf
-even-slope c k a r = grown (search (either-tells, edge-root) depth 8)
+even-slope c k a r = within (search (either-tells, edge-root) depth 8)
 
 biconic-slopes : (cx kx cy ky x y : Float) → Within (1 ∷ 4 ∷ 5 ∷ []) (biconicSlopes cx kx cy ky x y .line)
 unfolding biconicSlopes biconicSlopesAt oneOf
-biconic-slopes cx kx cy ky x y = grown (search (either-tells, edge-root))
+biconic-slopes cx kx cy ky x y = within (search (either-tells, edge-root))
 
 toroid-slopes : (rx cy ky x y : Float) → Within (1 ∷ 5 ∷ []) (toroidSlopes rx cy ky x y .line)
 unfolding toroidSlopes circleSlopes oneOf
-toroid-slopes rx cy ky x y = grown (search (either-tells, edge-root))
+toroid-slopes rx cy ky x y = within (search (either-tells, edge-root))
 
 normal : (k : Kind) (s : Surface) (p : Vec3) → Within (1 ∷ 2 ∷ 4 ∷ 5 ∷ []) (normalBy k s p .line)
 unfolding normalAt evenNormal evenFacing biconicNormal toroidNormal normalOf oneOf
-normal (Conic c k) s p = grown (search (either-tells, conic-normal))
-normal (Even c k) s p = grown (search (either-tells, even-slope))
-normal (Biconic cx kx cy ky) s p = grown (search (either-tells, biconic-slopes))
-normal (Toroid rx cy ky) s p = grown (search (either-tells, toroid-slopes))
+normal (Conic c k) s p = within (search (either-tells, conic-normal))
+normal (Even c k) s p = within (search (either-tells, even-slope))
+normal (Biconic cx kx cy ky) s p = within (search (either-tells, biconic-slopes))
+normal (Toroid rx cy ky) s p = within (search (either-tells, toroid-slopes))
 
 onward : (i n : Vec3) (b : Boundary) → Within (1 ∷ 4 ∷ 8 ∷ []) (onwardFrom i n b .line)
 unfolding onwardFrom oneOf
-onward i n Mirror = grown (search reflection)
-onward i n (Media n1 n2) = grown (search refraction)
+onward i n Mirror = within (search reflection)
+onward i n (Media n1 n2) = within (search refraction)
 
 -- a pass, by how the surface is met
 abbrev pub passAs : Surface → Ray → ℕ → Float → Family → Told Landing

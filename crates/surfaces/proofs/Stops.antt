@@ -1,4 +1,4 @@
--- What a trace needs of a pass's and a turn's number: whether it stops, and that a last pass does. Assumes nothing.
+-- A pass that goes on is not the last, and one that does not go on, or a turn, hits or stops a trace. Assumes nothing.
 use Prim.Native.Nat.{ℕ, _+_, _<_}
 use mathlib.Core.Path.{_≡_, refl, sym, _∙_}
 use mathlib.Core.Bool.{true, false, not, false≢true}
@@ -27,7 +27,7 @@ use Rattle.surfaces.proofs.Demand1.{each, crossed, passAs, demand-1}
 
 -- a conic is met in one pass
 pub at-once : (ray : Ray) (s : ConicSurface) → going (conicCrossing ray s) ≡ false
-at-once ray s = not-true _ (crossed ray s (λ n. not (eqb n 0)) (record { all = refl }) .told)
+at-once ray s = not-true _ (crossed ray s (λ n. not (eqb n 0)) (record { by-all = refl }) .told)
 
 module _ (s : Surface) (ray : Ray) (made : ℕ) (t : Float) where
   below : (f : Family) → going (passAs s ray made t f) ≡ true → made + 1 < metAs f (blank (s .kind)) (λ q. 1) (λ q. q .limit)

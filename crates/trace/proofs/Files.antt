@@ -1,23 +1,25 @@
 -- A program's file: the record of the ray, and the start on the rest. Assumes nothing.
-use Prim.Native.Nat.{ℕ, _≤_}
-use mathlib.Core.Path.{_≡_, refl}
+use Prim.Native.Nat.{ℕ, _+_, _≤_}
+use mathlib.Core.Path.{_≡_, refl, sym, _∙_, ap}
 use mathlib.Core.Logic.{_≢_}
 use mathlib.Core.List.{List}
 use mathlib.Core.Bool.{Bool, true, false}
 use native.Mathlib.Omega.{arith}
 use lib.ListN.{length, drop}
+use lib.Dec.{eqb}
 use lib.Ieee.{Float}
-use borrow.Author.Tests.{eq-eqb, ne-eqb}
+use borrow.Author.Tests.{eq-eqb, ne-eqb, eqb-true, eqb-false}
 use Rattle.numbers.specs.Arithmetic.{if_then_else_}
 use Rattle.recipe.specs.declared.scan.Checked.{Checked}
 use Rattle.recipe.specs.declared.source.Source.{Source}
-use Rattle.recipe.specs.Scan.{Scan, refused, items, nothing, scan, says, checkOf}
+use Rattle.recipe.specs.Scan.{Item, Scan, refused, items, nothing, scan, says, checkOf}
 use Rattle.recipe.specs.Source.{sourceBytes, isSource, sourceOf}
 use Rattle.recipe.proofs.Notes.{notes-answer}
-use Rattle.recipe.proofs.Scans.{scan-place}
+use Rattle.recipe.proofs.Scans.{scan-sound, scan-place}
 use Rattle.recipe.proofs.Shapes.{source-room}
 use Rattle.trace.specs.declared.run.Answer.{Answer}
-use Rattle.trace.specs.Trace.{mostRecords, blank, begunOf, startFileOf, refusedAnswer}
+use Rattle.trace.specs.Trace.{mostRecords, Reply, recipeOf, blank, begunOf, startAt, startOf, startFileOf, refusedAnswer, refusedReply}
+use Rattle.trace.specs.File.{behindRay, startBehind, File}
 use Rattle.trace.proofs.Starts.{start-is}
 
 pub source-long : (f : List ℕ) → sourceOf f .number ≡ 1 → sourceBytes ≤ length f
@@ -45,3 +47,31 @@ module _ (f : List ℕ) (z y : List Float) (blanked : y ≡ blank z) (s : Source
   pub with-source : s .number ≡ 1 → (c : Checked) → c ≡ checkOf (drop sourceBytes f) mostRecords 0 → a ≡ begunOf c sourceBytes (s .ray) (s .index) (length y) → record { answer = a; buffer = y } ≡ startFileOf f z
   unfolding startFileOf
   with-source h c checked begun = rw (← read, eq-eqb (s .number) 1 h) (start-is (drop sourceBytes f) c checked sourceBytes (s .ray) (s .index) z y a blanked begun)
+
+module _ (f : List ℕ) (z : List Float) where
+  without-ray : sourceOf f .number ≢ 1 → startFileOf f z ≡ refusedReply 10 0 (blank z)
+  without-ray h = sym (no-source f z (blank z) refl (sourceOf f) refl (refusedAnswer 10 0) h refl)
+
+  module _ (ray : sourceOf f .number ≡ 1) where
+    bad-record : (n p : ℕ) → recipeOf (behindRay f) ≡ refused n p → startFileOf f z ≡ refusedReply n (sourceBytes + p) (blank z)
+    unfolding startFileOf startAt
+    bad-record n p e = rw (eq-eqb (sourceOf f .number) 1 ray, e)
+
+    good-records : (l : List Item) → recipeOf (behindRay f) ≡ items l → startFileOf f z ≡ startBehind f z
+    unfolding startFileOf startOf startAt
+    good-records l e = rw (eq-eqb (sourceOf f .number) 1 ray, e)
+
+  accepted : startFileOf f z .answer .number ≡ 1 → (sourceOf f .number ≡ 1) × (startFileOf f z ≡ startBehind f z)
+  unfolding refusedAnswer
+  accepted h = by _ refl (recipeOf (behindRay f)) refl
+    where
+      number : Reply → ℕ
+      number r = r .answer .number
+
+      by : (t : Bool) → eqb (sourceOf f .number) 1 ≡ t → (r : Scan) → recipeOf (behindRay f) ≡ r → (sourceOf f .number ≡ 1) × (startFileOf f z ≡ startBehind f z)
+      by false t r e = let q = ap number (without-ray (eqb-false _ _ t)) in absurd (omega arith)
+      by true t (refused n p) e = absurd ((rw e at (scan-sound (behindRay f) mostRecords 0)) (sym (ap number (bad-record (eqb-true _ _ t) n p e)) ∙ h))
+      by true t (items l) e = let s = eqb-true _ _ t in (s, good-records s l e)
+
+pub file : File
+file = record { accepted = accepted; without-ray = without-ray; bad-record = λ f z n p s e. bad-record f z s n p e; good-records = λ f z l s e. good-records f z s l e }

@@ -5,5 +5,6 @@ pub mod Trace
 pub mod Ready
 pub mod Demand1
 pub mod Demand3
+pub mod File
 pub mod Long
 pub mod Example

@@ -15,6 +15,7 @@ use Rattle.recipe.specs.declared.source.Source.{Source}
 use Rattle.recipe.specs.Scan.{Item, Scan, refused, items, nothing, scan, says, checkOf}
 use Rattle.recipe.specs.Source.{sourceBytes, isSource, sourceOf}
 use Rattle.recipe.proofs.Notes.{notes-answer}
+use Rattle.recipe.proofs.Records.{not-1}
 use Rattle.recipe.proofs.Scans.{scan-sound, scan-place}
 use Rattle.recipe.proofs.Shapes.{source-room}
 use Rattle.trace.specs.declared.run.Answer.{Answer}
@@ -70,7 +71,7 @@ module _ (f : List ℕ) (z : List Float) where
 
       by : (t : Bool) → eqb (sourceOf f .number) 1 ≡ t → (r : Scan) → recipeOf (behindRay f) ≡ r → (sourceOf f .number ≡ 1) × (startFileOf f z ≡ startBehind f z)
       by false t r e = let q = ap number (without-ray (eqb-false _ _ t)) in absurd (omega arith)
-      by true t (refused n p) e = absurd ((rw e at (scan-sound (behindRay f) mostRecords 0)) (sym (ap number (bad-record (eqb-true _ _ t) n p e)) ∙ h))
+      by true t (refused n p) e = absurd (not-1 (rw e at (scan-sound (behindRay f) mostRecords 0)) (sym (ap number (bad-record (eqb-true _ _ t) n p e)) ∙ h))
       by true t (items l) e = let s = eqb-true _ _ t in (s, good-records s l e)
 
 pub file : File

@@ -27,7 +27,7 @@ class Change(NamedTuple):
 
 
 class Edit(NamedTuple):
-    """What it is and how it is refused are empty where there is no head."""
+    """Of a head that is not whole, what is missing is empty."""
 
     name: str
     what: str
@@ -48,10 +48,7 @@ def files(crate, top=TOP):
 
 def read(path):
     lines = path.read_text(encoding="utf-8").splitlines()
-    head = ["", ""]
-    if len(lines) > 1 and lines[0].startswith(HEAD[0]) and lines[1].startswith(HEAD[1]):
-        head = [line[len(sign):] for line, sign in zip(lines, HEAD)]
-        lines = lines[2:]
+    head = [lines.pop(0)[len(sign):] if lines and lines[0].startswith(sign) else "" for sign in HEAD]
     changes, file, old = [], "", ""
     for line in lines:
         word, _, text = line.partition(" ")

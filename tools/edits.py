@@ -59,7 +59,7 @@ def read(path):
         elif word == "new:":
             changes.append(Change(file, old, text))
         else:
-            raise Unfit(f"{path.stem}: {line!r} is no part of an edit")
+            raise Unfit(f"{line!r} is no part of an edit")
     return Edit(path.stem, *head, changes)
 
 
@@ -68,11 +68,11 @@ def changed(edit, crate):
     texts = {}
     for file, old, new in edit.changes:
         if not file.startswith(ROOMS) or ".." in file or not (crate / file).is_file():
-            raise Unfit(f"{edit.name}: {file!r} is no file of src/ or specs/")
+            raise Unfit(f"{file!r} is no file of src/ or specs/")
         text = texts.get(file) or (crate / file).read_text(encoding="utf-8")
         if not old or text.count(old) != 1:
-            raise Unfit(f"{edit.name}: {file} does not have this once: {old!r}")
+            raise Unfit(f"{file} does not have this once: {old!r}")
         texts[file] = text.replace(old, new)
     if not texts:
-        raise Unfit(f"{edit.name}: it changes nothing")
+        raise Unfit("it changes nothing")
     return texts

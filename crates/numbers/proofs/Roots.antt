@@ -12,8 +12,6 @@ use lib.Ieee.Digits.{size-lt}
 use Rattle.numbers.specs.Arithmetic.{if_then_else_}
 use Rattle.numbers.specs.Sqrt.{rootBelow, floorRoot, rounded, FloorRoot}
 use Rattle.numbers.specs.Parts.{Near}
--- named here so that the known values are checked before the laws, and a rule that misses one is refused by its row
-use Rattle.numbers.specs.Known.{each-row}
 
 abbrev pub Floor : ℕ → ℕ → Type 0
 Floor n r = (r * r ≤ n) × (n < (r + 1) * (r + 1))

@@ -29,8 +29,6 @@ use Rattle.trace.proofs.Starts.{Admitted}
 use Rattle.trace.proofs.Demand3.{sound, call, admitted-start, started}
 use Rattle.station.specs.Lent.{passesIn, outcomeIn, stateIn, countsOf, numbersOf, Left, left, told, toldIfAccepted, continued}
 use Rattle.station.specs.Carried.{scans, Beyond, unfit, Carried}
--- named here so that the worked cases are checked before the laws, and a rule that misses one is refused by its row
-use Rattle.station.specs.Cases.{each-case}
 
 at-most-9 : (n : ℕ) → stops n ≡ true → n ≤ 9
 at-most-9 n h = leb-true n 9 (each (λ (k : ℕ). leb k 9) outcomes n refl (stops-listed n h))

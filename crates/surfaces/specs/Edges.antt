@@ -1,20 +1,22 @@
--- Document 01's edges, both sides of each, and a case for each port that looks right: one list, which one theorem covers. A row has a rule's answer and the
--- paper's, each as a number of the table, the passes where there are any, and the bit patterns of all values. Assumes nothing.
-use Prim.Native.Nat.{ℕ, _+_, _*_, _^_}
+-- Document 01's edges, both sides of each, a case for each port that looks right, and the formulas where each of their
+-- terms counts: one list, which one theorem covers. A row has a rule's answer and the paper's, each as a number of the
+-- table, the passes where there are any, and the bit patterns of all values. Assumes nothing.
+use Prim.Native.Nat.{ℕ, _+_, _-_, _*_, _^_}
 use mathlib.Core.Path.{_≡_, refl}
 use mathlib.Core.Bool.{true, false}
 use mathlib.Core.List.{List, [], _∷_, _++_}
+use lib.ListN.{length, take}
 use lib.Ieee.{Float, nan, inf, binary64, ofBits, toBits, ofInt, neg, round, add, sub, mul, div, lt, le, eq, isNan}
 use Rattle.numbers.specs.Arithmetic.{if_then_else_, decimal, 0f, ½, 1f, 2f, 4f}
 use Rattle.numbers.specs.Basic.{magnitude, negative, larger, clamped, infinite}
 use Rattle.numbers.specs.Sqrt.{root}
-use Rattle.surfaces.specs.Types.{vec, backwards, dotOf, overOf, distance, pointAt, allFinite, rayFinite, landing, bothFinite, noLanding, landingFinite, noHit, hitFinite, noCoefficients, everyFinite, coefficientsGood}
+use Rattle.surfaces.specs.Types.{vec, backwards, dotOf, overOf, distance, pointAt, allFinite, rayFinite, landing, bothFinite, meridians, noLanding, landingFinite, noHit, hitFinite, noCoefficients, everyFinite, coefficientsGood}
 use Rattle.surfaces.specs.Told.{Told, Ended, plain, vignetted, gives, refused, noNumber, noPair, noDirection, noCrossing, noConic, noLeaving, ended, sagOf}
 use Rattle.surfaces.specs.Snell.{turnedIf, negatedIf, mirrored, reflected, reflectAnswer, bent, refracted, refractAnswer}
 use Rattle.surfaces.specs.Conic.{conicSurface, curvatureOf, fromRadius, fromCurvature, conicSag, conicSagAnswer, gradientNormal, conicNormal, conicNormalAnswer, conicFinite, landedWithin, planeCrossing, onSheet, firstOn, kept, firstRoot, secondRoot, ascending, quadraticOf, signOf, curvedCrossing, conicCrossing, normalAt, hitAt, meetRule, meetAnswer}
 use Rattle.surfaces.specs.Newton.{arrivedAt, movedBy, passAt, vertexPlane, passesFrom, newtonEnd, passStart, nextPass, limitedPass}
-use Rattle.surfaces.specs.Asphere.{powerSumFrom, slopeSumFrom, edgeRoot, baseRoot, baseSag, baseSlope, evenDepth, evenSlopeFrom, evenSlope, radialSlopes, evenSlopes, lengthOf, facingOf, evenFacing, evenNormal, evenGood, evenSagAnswer, evenParaxial, evenCrossingAnswer}
-use Rattle.surfaces.specs.Biconic.{numeratorOf, biconicRadicand, biconicDepth, onAxis, meridianSlope, biconicSlopesAt, biconicSlopes, normalOf, biconicNormal, biconicGood, biconicCrossingAnswer, baseCurveRadicand, baseCurveSag, circleDepth, toroidDepth, slopeRadicand, baseCurveSlope, circleSlopesAt, circleSlopes, toroidSlopes, toroidNormal, toroidGood, toroidSagAnswer, toroidSlopesAnswer, toroidCrossingAnswer}
+use Rattle.surfaces.specs.Asphere.{powerSumFrom, slopeSumFrom, edgeRoot, baseRoot, baseSag, baseSlope, evenDepth, evenSlopeFrom, evenSlope, radialSlopes, evenSlopes, lengthOf, facingOf, evenFacing, evenNormal, evenGood, evenSagAnswer, evenSlopeAnswer, evenParaxial, evenCrossingAnswer, oddSag, oddBaseSlope, oddSlope, oddNormal, oddGood, oddSagAnswer, oddNormalAnswer}
+use Rattle.surfaces.specs.Biconic.{numeratorOf, biconicRadicand, biconicDepth, onAxis, meridianSlope, biconicSlopesAt, biconicSlopes, normalOf, biconicNormal, biconicGood, biconicSagAnswer, biconicSlopesAnswer, biconicNormalAnswer, biconicCrossingAnswer, baseCurveRadicand, baseCurveSag, circleDepth, toroidDepth, slopeRadicand, baseCurveSlope, circleSlopesAt, circleSlopes, toroidSlopes, toroidNormal, toroidGood, toroidSagAnswer, toroidSlopesAnswer, toroidCrossingAnswer}
 use Rattle.surfaces.specs.Surface.{surfaceEnd, surfaceNormal, onwardFrom, turnRule}
 use Rattle.surfaces.specs.declared.types.Vec3.{Vec3}
 use Rattle.surfaces.specs.declared.types.Ray.{Ray}
@@ -25,6 +27,8 @@ use Rattle.surfaces.specs.declared.types.Coefficients.{Coefficients}
 use Rattle.surfaces.specs.declared.refusal.Line.{Line}
 use Rattle.surfaces.specs.declared.conic.ConicSurface.{ConicSurface}
 use Rattle.surfaces.specs.declared.asphere.EvenAsphere.{EvenAsphere}
+use Rattle.surfaces.specs.declared.asphere.OddAsphere.{OddAsphere}
+use Rattle.surfaces.specs.declared.biconic.BiconicSurface.{BiconicSurface}
 use Rattle.surfaces.specs.declared.biconic.ToroidalSurface.{ToroidalSurface}
 use Rattle.surfaces.specs.declared.surface.Kind.{Kind}
 use Rattle.surfaces.specs.declared.surface.Kind.the-variants.{Even, Biconic, Toroid}
@@ -110,36 +114,71 @@ on-axis h = ray (vec 0f 0f h) z
 abbrev pub plane : Float → ConicSurface
 plane v = conicSurface v 0f 0f (whole 10)
 
--- a hit on the axis from the front, at t and at height h
-abbrev pub hit : Float → Float → Told HitRecord
-hit t h = gives (record { t = t; point = vec 0f 0f h; normal = backwards; front = true })
+-- a hit from the front, at t, where the surface lies across the axis
+abbrev pub hit : Float → Vec3 → Told HitRecord
+hit t p = gives (record { t = t; point = p; normal = backwards; front = true })
 
-abbrev pub coefficients : List Float → ℕ → Coefficients
-coefficients l n = record { count = n; values = l }
+abbrev pub height : Float → Vec3
+height h = vec 0f 0f h
 
-abbrev pub just : Float → Coefficients
-just a = coefficients (a ∷ 0f ∷ 0f ∷ 0f ∷ 0f ∷ 0f ∷ 0f ∷ 0f ∷ []) 1
+-- these coefficients, and no number in the slots past them
+abbrev pub these : List Float → Coefficients
+these l = record { count = length l; values = take 8 (l ++ (nan ∷ nan ∷ nan ∷ nan ∷ nan ∷ nan ∷ nan ∷ nan ∷ [])) }
 
--- one coefficient, and no number in the slots past it
-abbrev pub just-and-nan : Float → Coefficients
-just-and-nan a = coefficients (a ∷ nan ∷ nan ∷ nan ∷ nan ∷ nan ∷ nan ∷ nan ∷ []) 1
+-- a count, with 1 in all slots
+abbrev pub ones : ℕ → Coefficients
+ones n = record { count = n; values = 1f ∷ 1f ∷ 1f ∷ 1f ∷ 1f ∷ 1f ∷ 1f ∷ 1f ∷ [] }
 
-abbrev pub even : Float → Coefficients → Float → EvenAsphere
-even c a semi = record { curvature = c; conic = 0f; semi = semi; coefficients = a }
+abbrev pub even : Float → Float → Coefficients → Float → EvenAsphere
+even c k a semi = record { curvature = c; conic = k; semi = semi; coefficients = a }
 
-abbrev pub toroid : Float → ToroidalSurface
-toroid rx = record { rx = rx; cy = 0f; ky = 0f; semi = whole 10 }
+abbrev pub asphere : EvenAsphere
+asphere = even (3 over 8) (1 over 3) (these (½ ∷ 1 over 4 ∷ 1 over 8 ∷ [])) (whole 5)
+
+abbrev pub odd : OddAsphere
+odd = record { curvature = 3 over 20; conic = 1 over 3; semi = whole 10; even = these (½ ∷ neg (1 over 16) ∷ []); odd = these (neg (3 over 2) ∷ 3 over 8 ∷ []) }
+
+abbrev pub biconic : BiconicSurface
+biconic = record { cx = 1 over 4; kx = ½; cy = 3 over 16; ky = neg (whole 3); semi = whole 10 }
+
+abbrev pub toroid : Float → Float → Float → ToroidalSurface
+toroid rx cy ky = record { rx = rx; cy = cy; ky = ky; semi = whole 10 }
 
 abbrev pub surface : Float → Float → Kind → Coefficients → Surface
 surface v semi k a = record { vertex = v; semi = semi; kind = k; coefficients = a }
 
--- an even asphere c 0 with the coefficient 1/8 at the vertex plane 0, met from (4, 0, -1) along z
-abbrev pub bowl : Float → Ended
-bowl semi = surfaceEnd (surface 0f semi (Even 0f 0f) (just (1 over 8))) (ray (vec 4f 0f (neg 1f)) z)
+abbrev pub flat : Float → Surface
+flat semi = surface 0f semi (Even 0f 0f) noCoefficients
+
+-- an even asphere c 0 with the coefficient 1/8, and a ray to it from (4, 0, -1) along z
+abbrev pub bowl : Float → Surface
+bowl semi = surface 0f semi (Even 0f 0f) (these (1 over 8 ∷ []))
+
+abbrev pub beside : Ray
+beside = ray (vec 4f 0f (neg 1f)) z
+
+-- a ray from (4, 0, 0), where the bowl rises by 1, that rises by h
+abbrev pub rising : Float → Ray
+rising h = ray (vec 4f 0f 0f) (vec 1f 0f h)
+
+-- a ray to (1, 0, 0) that rises by h
+abbrev pub skimming : Float → Ray
+skimming h = ray (vec 0f 0f (neg h)) (vec 1f 0f h)
+
+-- a ray from above a flat surface, whose first pass moves t by 2 ^ -50, back to the surface, and x by 1
+abbrev pub sideways : Ray
+sideways = ray (vec 0f 0f (1 over 2 ^ 30)) (vec (whole (2 ^ 50)) 0f (whole (2 ^ 20)))
+
+abbrev pub at-minus-1 : Landing
+at-minus-1 = landing (neg (1 over 2 ^ 50)) (vec (neg 1f) 0f 0f)
+
+-- a ray past the sag x², which Newton's method sends from t 0 to t -2 and back
+abbrev pub to-and-fro : Ray
+to-and-fro = ray (vec 2f 0f 0f) (vec 1f 0f 2f)
 
 -- where the second exit of a flat even asphere lands on a ray from (0, 0, 1e-10) towards (1e200, 0, 1000)
 abbrev pub far-out : Vec3
-far-out = surfaceEnd (surface 0f (whole 10) (Even 0f 0f) noCoefficients) (ray (vec 0f 0f (1 over 10 ^ 10)) (vec (whole (10 ^ 200)) 0f (whole 1000))) .answer .value .point
+far-out = surfaceEnd (flat (whole 10)) (ray (vec 0f 0f (1 over 10 ^ 10)) (vec (whole (10 ^ 200)) 0f (whole 1000))) .answer .value .point
 
 abbrev pub steep : Surface
 steep = surface 0f (whole 9) (Biconic (whole (10 ^ 308)) (neg 1f) 0f 0f) noCoefficients
@@ -150,23 +189,31 @@ cases =
     (number (conicSagAnswer 4f (1 over 8) (neg 1f)) ⇒ number (gives 1f)) ∷
     (number (conicSagAnswer 1f 1f 0f) ⇒ number (gives 1f)) ∷
     (number (conicSagAnswer ((2 ^ 52 + 1) over 2 ^ 52) 1f 0f) ⇒ number (noNumber 5)) ∷
-    (number (evenSagAnswer (even 1f noCoefficients 2f) ((2 ^ 52 + 1) over 2 ^ 52)) ⇒ number (gives ((2 ^ 51 + 1) over 2 ^ 51))) ∷
+    (number (evenSagAnswer (even 1f 0f noCoefficients 2f) ((2 ^ 52 + 1) over 2 ^ 52)) ⇒ number (gives ((2 ^ 51 + 1) over 2 ^ 51))) ∷
     -- flat below 1e-15
     (number (conicSagAnswer 1f (1 over 2 ^ 50) (neg 1f)) ⇒ number (gives 0f)) ∷
     (number (conicSagAnswer 1f (1 over 2 ^ 49) (neg 1f)) ⇒ number (gives (1 over 2 ^ 50))) ∷
     -- (1 + k) c c r² groups from the left: c c alone would be infinite; the sag is 2 ^ 599
     (number (conicSagAnswer 1f (whole (2 ^ 600)) (neg 1f)) ⇒ 1 ∷ 0 ∷ 0 ∷ 0x6560_0000_0000_0000 ∷ []) ∷
+    -- conic normal off the axis, at a vertex other than 0: the gradient is (1/4, 1/8, -1/4)
+    (direction (conicNormalAnswer (vec 4f 2f 4f) (conicSurface (whole 3) (1 over 16) (whole 11) (whole 5))) ⇒ direction (gives (vec (2 over 3) (1 over 3) (neg (2 over 3))))) ∷
     -- a plane a little behind the origin is met at t 0, one farther behind is missed
-    (meet (meetAnswer (on-axis (1 over 2 ^ 24)) (plane 0f)) ⇒ meet (hit 0f (1 over 2 ^ 24))) ∷
+    (meet (meetAnswer (on-axis (1 over 2 ^ 24)) (plane 0f)) ⇒ meet (hit 0f (height (1 over 2 ^ 24)))) ∷
     (meet (meetAnswer (on-axis (1 over 2 ^ 23)) (plane 0f)) ⇒ meet (refused noHit (plain 6))) ∷
+    -- |dz| below 1e-15 is a miss, at a plane and at a kind that passes; above, the ray comes to the surface at t 1
+    (meet (meetAnswer (skimming (1 over 2 ^ 50)) (plane 0f)) ⇒ meet (refused noHit (plain 6))) ∷
+    (meet (meetAnswer (skimming (1 over 2 ^ 49)) (plane 0f)) ⇒ meet (hit 1f (vec 1f 0f 0f))) ∷
+    (end (surfaceEnd (flat (whole 10)) (skimming (1 over 2 ^ 50))) ⇒ end (ended (noCrossing 6) 1)) ∷
+    (end (surfaceEnd (flat (whole 10)) (skimming (1 over 2 ^ 49))) ⇒ end (ended (gives (landing 1f (vec 1f 0f 0f))) 1)) ∷
     -- the nearer crossing of a sphere, t 2 and not 18; on a hyperboloid the sheet through the vertex, t 5 and not 3
-    (meet (meetAnswer (on-axis (neg 2f)) (conicSurface 0f (1 over 8) 0f (whole 10))) ⇒ meet (hit 2f 0f)) ∷
-    (meet (meetAnswer (on-axis (neg (whole 5))) (conicSurface 0f 1f (neg 2f) (whole 10))) ⇒ meet (hit (whole 5) 0f)) ∷
+    (meet (meetAnswer (on-axis (neg 2f)) (conicSurface 0f (1 over 8) 0f (whole 10))) ⇒ meet (hit 2f (height 0f))) ∷
+    (meet (meetAnswer (on-axis (neg (whole 5))) (conicSurface 0f 1f (neg 2f) (whole 10))) ⇒ meet (hit (whole 5) (height 0f))) ∷
     -- a negative semi-diameter is 3 for a conic and 2 for the others, after a number that is not finite, 2
     (meet (meetAnswer (on-axis (neg 2f)) (conicSurface 0f 0f 0f (neg 1f))) ⇒ meet (refused noHit (plain 3))) ∷
     (meet (meetAnswer (on-axis nan) (conicSurface 0f 0f 0f (neg 1f))) ⇒ meet (refused noHit (plain 2))) ∷
-    (crossing (evenCrossingAnswer (even 0f noCoefficients (neg 1f)) (on-axis (neg 2f)) 0f) ⇒ crossing (noCrossing 2)) ∷
-    -- constructors: 4 for NaN before 3 for a negative semi-diameter before 4 for a radius of about 0; an infinite radius is a plane
+    (crossing (evenCrossingAnswer (even 0f 0f noCoefficients (neg 1f)) (on-axis (neg 2f)) 0f) ⇒ crossing (noCrossing 2)) ∷
+    -- constructors: 4 for NaN before 3 for a negative semi-diameter before 4 for a radius of about 0; an infinite
+    -- radius is a plane
     (conic (fromCurvature nan 0f (neg 1f)) ⇒ conic (refused noConic (plain 4))) ∷
     (conic (fromRadius 0f 0f (neg 1f)) ⇒ conic (refused noConic (plain 3))) ∷
     (conic (fromRadius 0f 0f 1f) ⇒ conic (refused noConic (plain 4))) ∷
@@ -174,22 +221,54 @@ cases =
     -- the r of a 7 may be infinite, and is then no 9
     (meet (meetAnswer (ray (vec 0f 0f (neg 1f)) (vec (whole (10 ^ 200)) 0f 1f)) (plane 0f)) ⇒ meet (refused noHit (vignetted (inf false) (whole 10)))) ∷
     -- 9 is a number that an answer would hand out
-    (number (evenParaxial (even (whole (10 ^ 308)) (just (whole (10 ^ 308))) 1f)) ⇒ number (noNumber 9)) ∷
-    -- even asphere: within 1.5 semi-diameters but beyond one it is vignetted, beyond 1.5 it is missed; slots past the count are not read
-    (end (bowl (whole 5)) ⇒ end (ended (gives (landing (whole 3) (vec 4f 0f 2f))) 2)) ∷
-    (end (bowl (whole 3)) ⇒ end (ended (refused noLanding (vignetted 4f (whole 3))) 2)) ∷
-    (end (bowl 2f) ⇒ end (ended (noCrossing 6) 1)) ∷
-    (number (evenSagAnswer (even 0f (just-and-nan (1 over 8)) (whole 5)) 4f) ⇒ number (gives 2f)) ∷
-    -- its second exit does not check r
-    (end (surfaceEnd (surface 0f ½ (Even 0f 0f) noCoefficients) (ray (vec 0f 0f (1 over 2 ^ 30)) (vec (whole (2 ^ 50)) 0f (whole (2 ^ 20))))) ⇒
-    end (ended (gives (landing (neg (1 over 2 ^ 50)) (vec (neg 1f) 0f 0f))) 1)) ∷
-    -- there r may be infinite, which its normal refuses with 2
-    (turn (turnRule (surface 0f (whole 10) (Even 0f 0f) noCoefficients) (vec (whole (10 ^ 200)) 0f (whole 1000)) far-out (Media 1f 1f)) ⇒ turn (refused noLeaving (plain 2))) ∷
+    (number (evenParaxial (even (whole (10 ^ 308)) 0f (these (whole (10 ^ 308) ∷ [])) 1f)) ⇒ number (noNumber 9)) ∷
+    -- even asphere: three coefficients, and a base whose root is 1/2: sag 1 + (2 + 4 + 8), slope 3/2 + (2 + 8 + 24)
+    (number (evenSagAnswer asphere 2f) ⇒ number (gives (whole 15))) ∷
+    (number (evenSlopeAnswer asphere 2f) ⇒ number (gives (71 over 2))) ∷
+    -- eight coefficients are added up, a count of nine is refused
+    (number (evenSagAnswer (even 0f 0f (ones 8) (whole 5)) 2f) ⇒ number (gives (whole (4 + 4 ^ 2 + 4 ^ 3 + 4 ^ 4 + 4 ^ 5 + 4 ^ 6 + 4 ^ 7 + 4 ^ 8)))) ∷
+    (number (evenSagAnswer (even 0f 0f (ones 9) (whole 5)) 2f) ⇒ number (noNumber 2)) ∷
+    -- odd asphere with such a base: sag 5/2 + (25/2 - 625/16) + (-15/2 + 375/8) at r 5, and there the slope
+    -- 3/2 + (5 - 125/4) + (-3/2 + 225/8), which is 15/8
+    (number (oddSagAnswer odd (whole 5)) ⇒ number (gives (245 over 16))) ∷
+    (direction (oddNormalAnswer odd (whole 3) 4f) ⇒ direction (gives (vec (9 over 17) (12 over 17) (neg (8 over 17))))) ∷
+    -- even asphere: within 1.5 semi-diameters but beyond one it is vignetted, beyond 1.5 it is missed; slots past the
+    -- count are not read
+    (end (surfaceEnd (bowl (whole 5)) beside) ⇒ end (ended (gives (landing (whole 3) (vec 4f 0f 2f))) 2)) ∷
+    (end (surfaceEnd (bowl (whole 3)) beside) ⇒ end (ended (refused noLanding (vignetted 4f (whole 3))) 2)) ∷
+    (end (surfaceEnd (bowl 2f) beside) ⇒ end (ended (noCrossing 6) 1)) ∷
+    (number (evenSagAnswer (even 0f 0f (these (1 over 8 ∷ [])) (whole 5)) 4f) ⇒ number (gives 2f)) ∷
+    -- |f'| below 1e-15 is singular; above, the ray moves on, far beyond the surface
+    (end (surfaceEnd (bowl (whole 5)) (rising ((2 ^ 50 + 1) over 2 ^ 50))) ⇒ end (ended (noCrossing 4) 1)) ∷
+    (end (surfaceEnd (bowl (whole 5)) (rising ((2 ^ 49 + 1) over 2 ^ 49))) ⇒ end (ended (noCrossing 6) 2)) ∷
+    -- the second exit: an even asphere does not check r there, a biconic and a toroid do
+    (end (surfaceEnd (flat ½) sideways) ⇒ end (ended (gives at-minus-1) 1)) ∷
+    (end (surfaceEnd (surface 0f ½ (Biconic 0f 0f 0f 0f) noCoefficients) sideways) ⇒ end (ended (refused noLanding (vignetted 1f ½)) 1)) ∷
+    (end (surfaceEnd (surface 0f 1f (Biconic 0f 0f 0f 0f) noCoefficients) sideways) ⇒ end (ended (gives at-minus-1) 1)) ∷
+    (end (surfaceEnd (surface 0f ½ (Toroid (whole 5) 0f 0f) noCoefficients) sideways) ⇒ end (ended (refused noLanding (vignetted 1f ½)) 1)) ∷
+    (end (surfaceEnd (surface 0f 1f (Toroid (whole 5) 0f 0f) noCoefficients) sideways) ⇒ end (ended (gives at-minus-1) 1)) ∷
+    -- on an even asphere r may be infinite there, which its normal refuses with 2
+    (turn (turnRule (flat (whole 10)) (vec (whole (10 ^ 200)) 0f (whole 1000)) far-out (Media 1f 1f)) ⇒ turn (refused noLeaving (plain 2))) ∷
+    -- the last pass, the 25th or the 35th, ends in a miss if in nothing else
+    (end (surfaceEnd (surface 0f (whole 5) (Even 0f 0f) (ones 1)) to-and-fro) ⇒ end (ended (noCrossing 6) 25)) ∷
+    (end (surfaceEnd (surface 0f (whole 5) (Biconic 2f (neg 1f) 0f 0f) noCoefficients) to-and-fro) ⇒ end (ended (noCrossing 6) 35)) ∷
+    -- and it may hit: on a ray that touches, x - 64 halves 24 times from -32
+    (end (surfaceEnd (surface 0f (whole 100) (Even 0f 0f) (ones 1)) (ray (vec (whole 32) 0f 0f) (vec 1f 0f (whole 128)))) ⇒
+    end (ended (gives (landing ((2 ^ 24 - 1) over 2 ^ 19) (vec ((2 ^ 25 - 1) over 2 ^ 19) 0f ((2 ^ 24 - 1) over 2 ^ 12)))) 25)) ∷
+    -- biconic off the axis: the root is 2 and the numerator 16, the slopes are 2/3 + 1/3 and 1 - 1/2
+    (number (biconicSagAnswer biconic 4f (whole 8)) ⇒ number (gives (16 over 3))) ∷
+    (pair (biconicSlopesAnswer biconic 4f (whole 8)) ⇒ pair (gives (meridians 1f ½))) ∷
+    (direction (biconicNormalAnswer biconic 4f (whole 8)) ⇒ direction (gives (vec (2 over 3) (1 over 3) (neg (2 over 3))))) ∷
     -- toroid: both signs of rx, and the circle's rim, which has a sag and no slope
-    (number (toroidSagAnswer (toroid (whole 5)) (whole 3) 0f) ⇒ number (gives 1f)) ∷
-    (number (toroidSagAnswer (toroid (neg (whole 5))) (whole 3) 0f) ⇒ number (gives (neg 1f))) ∷
-    (number (toroidSagAnswer (toroid (whole 5)) (whole 5) 0f) ⇒ number (gives (whole 5))) ∷
-    (pair (toroidSlopesAnswer (toroid (whole 5)) (whole 5) 0f) ⇒ pair (noPair 5)) ∷
+    (number (toroidSagAnswer (toroid (whole 5) 0f 0f) (whole 3) 0f) ⇒ number (gives 1f)) ∷
+    (number (toroidSagAnswer (toroid (neg (whole 5)) 0f 0f) (whole 3) 0f) ⇒ number (gives (neg 1f))) ∷
+    (number (toroidSagAnswer (toroid (whole 5) 0f 0f) (whole 5) 0f) ⇒ number (gives (whole 5))) ∷
+    (pair (toroidSlopesAnswer (toroid (whole 5) 0f 0f) (whole 5) 0f) ⇒ pair (noPair 5)) ∷
+    -- off both axes: the base curve has the root 1/2, the sag 2 and the slope 1, so the circle's radius is 5, or -5
+    -- where rx is below 0
+    (number (toroidSagAnswer (toroid (whole 7) (1 over 12) 2f) (whole 3) (whole 6)) ⇒ number (gives (whole 3))) ∷
+    (pair (toroidSlopesAnswer (toroid (whole 7) (1 over 12) 2f) (whole 3) (whole 6)) ⇒ pair (gives (meridians (3 over 4) (5 over 4)))) ∷
+    (pair (toroidSlopesAnswer (toroid (neg (whole 3)) (1 over 12) 2f) (whole 3) (whole 6)) ⇒ pair (gives (meridians (neg (3 over 4)) (5 over 4)))) ∷
     -- its sag takes NaN, and so it is missed after all its passes; the others are missed in the first
     (end (surfaceEnd (surface (whole (10 ^ 308)) (whole 10) (Toroid (whole 5) 0f 0f) noCoefficients) (on-axis (neg (whole (10 ^ 308))))) ⇒ end (ended (noCrossing 6) 35)) ∷
     (end (surfaceEnd (surface (whole (10 ^ 308)) (whole 10) (Even 0f 0f) noCoefficients) (on-axis (neg (whole (10 ^ 308))))) ⇒ end (ended (noCrossing 6) 1)) ∷
@@ -197,11 +276,16 @@ cases =
     -- a normal that is not finite meets refraction's own test, 4 and not 9
     (reached (surfaceEnd steep (ray (vec 1f 0f (whole (5 * 10 ^ 307))) z)) ⇒ 1 ∷ 1 ∷ bits (0f ∷ [])) ∷
     (turn (turnRule steep z (vec 1f 0f (whole (5 * 10 ^ 307))) (Media 1f 1f)) ⇒ turn (refused noLeaving (plain 4))) ∷
-    -- refraction: k exactly 0 passes, below it is total reflection; a mirror
+    -- refraction: k exactly 0 passes, below it is total reflection
     (direction (refractAnswer (vec 1f 0f 0f) backwards 1f 1f) ⇒ direction (gives (vec 1f 0f 0f))) ∷
     (direction (refractAnswer (vec 1f 0f 0f) backwards 2f 1f) ⇒ direction (noDirection 8)) ∷
-    (direction (reflectAnswer z backwards) ⇒ direction (gives (vec 0f 0f (neg 1f)))) ∷ []
+    -- with eta 3/4 a sine of 4/5 becomes 3/5, on whichever side the normal is given: (7/9, -4/45, 28/45)
+    (direction (refractAnswer (vec (whole 28) 4f (whole 35)) (vec (neg (whole 8)) 4f (neg 1f)) (whole 3) 4f) ⇒ 1 ∷ 0 ∷ 0 ∷ 0x3FE8_E38E_38E3_8E39 ∷ 0xBFB6_C16C_16C1_6C17 ∷ 0x3FE3_E93E_93E9_3E94 ∷ []) ∷
+    (direction (refractAnswer (vec (whole 28) 4f (whole 35)) (vec (whole 8) (neg 4f) 1f) (whole 3) 4f) ⇒ 1 ∷ 0 ∷ 0 ∷ 0x3FE8_E38E_38E3_8E39 ∷ 0xBFB6_C16C_16C1_6C17 ∷ 0x3FE3_E93E_93E9_3E94 ∷ []) ∷
+    -- a mirror, and one whose normal is given on the other side: (29/45, -28/45, -4/9)
+    (direction (reflectAnswer z backwards) ⇒ direction (gives (vec 0f 0f (neg 1f)))) ∷
+    (direction (reflectAnswer (vec (whole 35) (neg 4f) (whole 28)) (vec 1f 4f (whole 8))) ⇒ 1 ∷ 0 ∷ 0 ∷ 0x3FE4_9F49_F49F_49F5 ∷ 0xBFE3_E93E_93E9_3E94 ∷ 0xBFDC_71C7_1C71_C71C ∷ []) ∷ []
 
 pub each-case : rules cases ≡ papers cases
-unfolding cases bits _over_ decimal magnitude negative larger clamped infinite root neg add sub mul div lt le eq isNan ofBits ofInt dotOf overOf distance pointAt allFinite rayFinite bothFinite landingFinite hitFinite everyFinite coefficientsGood sagOf turnedIf negatedIf mirrored reflected reflectAnswer bent refracted refractAnswer curvatureOf fromRadius fromCurvature conicSag conicSagAnswer gradientNormal conicNormal conicNormalAnswer conicFinite landedWithin planeCrossing onSheet firstOn kept firstRoot secondRoot ascending quadraticOf signOf curvedCrossing conicCrossing normalAt hitAt meetRule meetAnswer arrivedAt movedBy passAt vertexPlane passesFrom newtonEnd passStart nextPass limitedPass powerSumFrom slopeSumFrom edgeRoot baseRoot baseSag baseSlope evenDepth evenSlopeFrom evenSlope radialSlopes evenSlopes lengthOf facingOf evenFacing evenNormal evenGood evenSagAnswer evenParaxial evenCrossingAnswer numeratorOf biconicRadicand biconicDepth onAxis meridianSlope biconicSlopesAt biconicSlopes normalOf biconicNormal biconicGood biconicCrossingAnswer baseCurveRadicand baseCurveSag circleDepth toroidDepth slopeRadicand baseCurveSlope circleSlopesAt circleSlopes toroidSlopes toroidNormal toroidGood toroidSagAnswer toroidSlopesAnswer toroidCrossingAnswer surfaceEnd surfaceNormal onwardFrom turnRule
+unfolding cases bits _over_ decimal magnitude negative larger clamped infinite root neg add sub mul div lt le eq isNan ofBits ofInt dotOf overOf distance pointAt allFinite rayFinite bothFinite landingFinite hitFinite everyFinite coefficientsGood sagOf turnedIf negatedIf mirrored reflected reflectAnswer bent refracted refractAnswer curvatureOf fromRadius fromCurvature conicSag conicSagAnswer gradientNormal conicNormal conicNormalAnswer conicFinite landedWithin planeCrossing onSheet firstOn kept firstRoot secondRoot ascending quadraticOf signOf curvedCrossing conicCrossing normalAt hitAt meetRule meetAnswer arrivedAt movedBy passAt vertexPlane passesFrom newtonEnd passStart nextPass limitedPass powerSumFrom slopeSumFrom edgeRoot baseRoot baseSag baseSlope evenDepth evenSlopeFrom evenSlope radialSlopes evenSlopes lengthOf facingOf evenFacing evenNormal evenGood evenSagAnswer evenSlopeAnswer evenParaxial evenCrossingAnswer oddSag oddBaseSlope oddSlope oddNormal oddGood oddSagAnswer oddNormalAnswer numeratorOf biconicRadicand biconicDepth onAxis meridianSlope biconicSlopesAt biconicSlopes normalOf biconicNormal biconicGood biconicSagAnswer biconicSlopesAnswer biconicNormalAnswer biconicCrossingAnswer baseCurveRadicand baseCurveSag circleDepth toroidDepth slopeRadicand baseCurveSlope circleSlopesAt circleSlopes toroidSlopes toroidNormal toroidGood toroidSagAnswer toroidSlopesAnswer toroidCrossingAnswer surfaceEnd surfaceNormal onwardFrom turnRule
 each-case = refl

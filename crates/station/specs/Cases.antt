@@ -3,6 +3,7 @@
 use Prim.Native.Nat.{ℕ}
 use mathlib.Core.Path.{_≡_, refl}
 use mathlib.Core.List.{List, [], _∷_, _++_}
+use mathlib.Core.Bool.{true}
 use lib.ListN.{replicate}
 use lib.Ieee.{Float, ofBits, toBits, ofInt, neg, round, add, sub, mul, div, lt, le, eq, isNan}
 use Rattle.numbers.specs.Arithmetic.{decimal, 0f, 1f, 2f}
@@ -12,7 +13,7 @@ use Rattle.surfaces.specs.Types.{rayOf, dotOf, overOf, distance, pointAt, allFi
 use Rattle.surfaces.specs.Snell.{turnedIf, negatedIf, bent, refracted}
 use Rattle.surfaces.specs.Conic.{landedWithin, planeCrossing, conicCrossing, conicNormal, gradientNormal, normalAt}
 use Rattle.surfaces.specs.Surface.{passRule, limitOf, surfaceNormal, onwardFrom, turnRule}
-use Rattle.surfaces.specs.Edges.{_over_, whole, bits, Case, _⇒_, rules, papers}
+use Rattle.surfaces.specs.Edges.{_over_, whole, bits, Case, _⇒_, agree}
 use Rattle.surfaces.specs.declared.types.Ray.{Ray}
 use Rattle.recipe.specs.Endian.{u16At, u64At, numberAt, numbersAt}
 use Rattle.recipe.specs.Record.{slotAt, lengthFits, shapedAt, semiSlot, kindOf, coefficientCount, coefficientsAt, opticAt, recordAt}
@@ -80,6 +81,6 @@ cases =
     -- a refused continuation writes nothing, not even a count that it reads as the type's largest
     (shown (continued planeRecord (0 ∷ 0 ∷ 65536 ∷ 0 ∷ 0 ∷ []) begun (replicate 13 2f) 1) ⇒ 12 ∷ 0 ∷ 0 ∷ 0 ∷ 65536 ∷ 0 ∷ 0 ∷ bits (begun ++ replicate 13 2f)) ∷ []
 
-pub each-case : rules cases ≡ papers cases
+pub each-case : agree cases ≡ true
 unfolding cases bits _over_ rayOf passesIn outcomeIn stateIn countsOf numbersOf continued bytes patterns planeRecord decimal magnitude negative larger clamped infinite root neg round add sub mul div lt le eq isNan ofBits toBits ofInt dotOf overOf distance pointAt allFinite rayFinite everyFinite turnedIf negatedIf bent refracted landedWithin planeCrossing conicCrossing conicNormal gradientNormal normalAt passRule limitOf surfaceNormal onwardFrom turnRule u16At u64At numberAt numbersAt slotAt lengthFits shapedAt semiSlot kindOf coefficientCount coefficientsAt opticAt recordAt scan notes boundaryOf farther legFinite legOf beamAfter hitRow rowOf stateAfter surfaceLeft stepOn move advance outcomeKnown placeFits passesFit beamGood fitsOf refusedAnswer admission startAt startOf continueOf
 each-case = refl

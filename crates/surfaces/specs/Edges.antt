@@ -3,8 +3,9 @@
 -- table, the passes where there are any, and the bit patterns of all values. Assumes nothing.
 use Prim.Native.Nat.{ℕ, _+_, _-_, _*_, _^_}
 use mathlib.Core.Path.{_≡_, refl}
-use mathlib.Core.Bool.{true, false}
+use mathlib.Core.Bool.{Bool, true, false, _&&_}
 use mathlib.Core.List.{List, [], _∷_, _++_}
+use lib.Dec.{eqb}
 use lib.ListN.{length, take}
 use lib.Ieee.{Float, nan, inf, binary64, ofBits, toBits, ofInt, neg, round, add, sub, mul, div, lt, le, eq, isNan}
 use Rattle.numbers.specs.Arithmetic.{if_then_else_, decimal, 0f, ½, 1f, 2f, 4f}
@@ -93,13 +94,17 @@ infix 4 _⇒_
 abbrev pub _⇒_ : List ℕ → List ℕ → Case
 a ⇒ b = record { rule = a; paper = b }
 
-abbrev pub rules : List Case → List (List ℕ)
-rules [] = []
-rules (c ∷ l) = c .rule ∷ rules l
+-- whether two lists have the same numbers
+abbrev pub same : List ℕ → List ℕ → Bool
+same [] [] = true
+same [] (n ∷ m) = false
+same (k ∷ l) [] = false
+same (k ∷ l) (n ∷ m) = eqb k n && same l m
 
-abbrev pub papers : List Case → List (List ℕ)
-papers [] = []
-papers (c ∷ l) = c .paper ∷ papers l
+-- whether each rule's answer is the paper's
+abbrev pub agree : List Case → Bool
+agree [] = true
+agree (c ∷ l) = same (c .rule) (c .paper) && agree l
 
 -- rays and surfaces
 abbrev pub ray : Vec3 → Vec3 → Ray
@@ -286,6 +291,6 @@ cases =
     (direction (reflectAnswer z backwards) ⇒ direction (gives (vec 0f 0f (neg 1f)))) ∷
     (direction (reflectAnswer (vec (whole 35) (neg 4f) (whole 28)) (vec 1f 4f (whole 8))) ⇒ 1 ∷ 0 ∷ 0 ∷ 0x3FE4_9F49_F49F_49F5 ∷ 0xBFE3_E93E_93E9_3E94 ∷ 0xBFDC_71C7_1C71_C71C ∷ []) ∷ []
 
-pub each-case : rules cases ≡ papers cases
+pub each-case : agree cases ≡ true
 unfolding cases bits _over_ decimal magnitude negative larger clamped infinite root neg add sub mul div lt le eq isNan ofBits ofInt dotOf overOf distance pointAt allFinite rayFinite bothFinite landingFinite hitFinite everyFinite coefficientsGood sagOf turnedIf negatedIf mirrored reflected reflectAnswer bent refracted refractAnswer curvatureOf fromRadius fromCurvature conicSag conicSagAnswer gradientNormal conicNormal conicNormalAnswer conicFinite landedWithin planeCrossing onSheet firstOn kept firstRoot secondRoot ascending quadraticOf signOf curvedCrossing conicCrossing normalAt hitAt meetRule meetAnswer arrivedAt movedBy passAt vertexPlane passesFrom newtonEnd passStart nextPass limitedPass powerSumFrom slopeSumFrom edgeRoot baseRoot baseSag baseSlope evenDepth evenSlopeFrom evenSlope radialSlopes evenSlopes lengthOf facingOf evenFacing evenNormal evenGood evenSagAnswer evenSlopeAnswer evenParaxial evenCrossingAnswer oddSag oddBaseSlope oddSlope oddNormal oddGood oddSagAnswer oddNormalAnswer numeratorOf biconicRadicand biconicDepth onAxis meridianSlope biconicSlopesAt biconicSlopes normalOf biconicNormal biconicGood biconicSagAnswer biconicSlopesAnswer biconicNormalAnswer biconicCrossingAnswer baseCurveRadicand baseCurveSag circleDepth toroidDepth slopeRadicand baseCurveSlope circleSlopesAt circleSlopes toroidSlopes toroidNormal toroidGood toroidSagAnswer toroidSlopesAnswer toroidCrossingAnswer surfaceEnd surfaceNormal onwardFrom turnRule
 each-case = refl

@@ -5,10 +5,10 @@ use mathlib.Core.Bool.{Bool, true, false}
 use native.Mathlib.Omega.{arith}
 use lib.Dec.{lit≤}
 use lib.Ieee.{Float}
-use Rattle.numbers.specs.Arithmetic.{if_then_else_, _<₆₄_, 0f, 1e-15}
-use Rattle.numbers.specs.Basic.{magnitude}
+use Rattle.numbers.specs.Arithmetic.{if_then_else_, 0f}
 use Rattle.surfaces.specs.Types.{noCoefficients}
 use Rattle.surfaces.specs.Told.{Told, Ended, ended}
+use Rattle.surfaces.specs.Conic.{parallel}
 use Rattle.surfaces.specs.Newton.{Shape, going, passAt, vertexPlane, passesFrom, newtonEnd, limitedPass}
 use Rattle.surfaces.specs.Surface.{shapeOf, conicOf, familyOf, passRule, surfaceEnd, limitOf, chain, ChainEnds}
 use Rattle.surfaces.specs.declared.types.Ray.{Ray}
@@ -54,7 +54,7 @@ module _ (q : Shape) (vertex : Float) (ray : Ray) where
   unfolding newtonEnd
   end-bounded h =
       let b = passes-bounded (q .limit) 0 (vertexPlane vertex ray) in
-      either (λ e. Bounded e (q .limit)) (magnitude (ray .direction .z) <₆₄ 1e-15) _ _ (refl, omega arith) (b .0, omega (arith, b .1))
+      either (λ e. Bounded e (q .limit)) (parallel ray) _ _ (refl, omega arith) (b .0, omega (arith, b .1))
 
 -- a surface whose passes are a shape's
 module _ (s : Surface) (ray : Ray) (q : Shape) (same : (made : ℕ) (t : Float) → passRule s ray made t ≡ limitedPass q (s .vertex) ray made t) where

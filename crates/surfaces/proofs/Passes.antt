@@ -6,9 +6,9 @@ use native.Mathlib.Omega.{arith}
 use lib.Dec.{leb, eqb·suc-zero}
 use borrow.Author.Tests.{leb-false, le-leb, lt-leb}
 use lib.Ieee.{Float}
-use Rattle.numbers.specs.Arithmetic.{if_then_else_, _<₆₄_, 1e-15}
-use Rattle.numbers.specs.Basic.{magnitude}
+use Rattle.numbers.specs.Arithmetic.{if_then_else_}
 use Rattle.surfaces.specs.Told.{Told, Ended, ended, noCrossing}
+use Rattle.surfaces.specs.Conic.{parallel}
 use Rattle.surfaces.specs.Newton.{Shape, going, passAt, vertexPlane, passesFrom, newtonEnd, nextPass, limitedPass, passStart}
 use Rattle.surfaces.specs.declared.types.Ray.{Ray}
 use Rattle.surfaces.specs.declared.types.Landing.{Landing}
@@ -45,7 +45,7 @@ module _ (q : Shape) (vertex : Float) (ray : Ray) where
 
   pub step : (made : ℕ) (t : Float) → made < q .limit → onFrom made t ≡ next made (limitedPass q vertex ray made t)
   unfolding newtonEnd limitedPass nextPass passStart passesFrom
-  step zero t h = begin (magnitude (ray .direction .z) <₆₄ 1e-15) (vertexPlane vertex ray) (omega arith)
+  step zero t h = begin (parallel ray) (vertexPlane vertex ray) (omega arith)
   step (suc n) t h =
       let d : q .limit - suc n ≡ suc (q .limit - suc (suc n)) = omega arith in
       rw (d, eqb·suc-zero n) (turn (suc n) (q .limit - suc (suc n)) (passAt q vertex ray t) _ refl (omega arith))

@@ -5,12 +5,12 @@ use lib.Dec.{eqb}
 use lib.Ieee.Fits.{sub-fits}
 use lib.Ieee.{binary64, Float, neg}
 use lib.Ieee.Scale.{finite}
-use Rattle.numbers.specs.Arithmetic.{if_then_else_, _+₆₄_, _-₆₄_, _*₆₄_, _/₆₄_, _<₆₄_, 0f, 1f, 1e-12}
+use Rattle.numbers.specs.Arithmetic.{if_then_else_, _+₆₄_, _-₆₄_, _*₆₄_, _/₆₄_, _<₆₄_, 0f, 1f}
 use Rattle.numbers.specs.Basic.{larger}
 use Rattle.numbers.specs.Sqrt.{root}
 use Rattle.surfaces.specs.Types.{noMeridians, terms, rootAgain}
 use Rattle.surfaces.specs.Told.{Told, plain, gives, refused, done, after, depths, noDepths}
-use Rattle.surfaces.specs.Asphere.{edgeRoot, powerSum, baseRoot, baseSag, evenDepth, evenSlopeFrom, evenSlope, evenSlopes, evenSlopesFrom}
+use Rattle.surfaces.specs.Asphere.{radicandTolerance, edgeRoot, powerSum, baseRoot, baseSag, evenDepth, evenSlopeFrom, evenSlope, evenSlopes, evenSlopesFrom}
 use Rattle.surfaces.specs.Conic.{signOf}
 use Rattle.surfaces.specs.Biconic.{numeratorOf, biconicRadicand, biconicDepth, biconicSlopesAt, biconicSlopes, biconicSlopesFrom, baseCurveRadicand, baseCurveSag, slopeRadicand, circleDepth, toroidDepth, circleSlopes, toroidSlopes, toroidSlopesFrom}
 use Rattle.surfaces.specs.Surface.{shapeOf, slopesFrom}
@@ -41,7 +41,7 @@ edge-value x false h = refl
 
 edge-root : (x : Float) → done (edgeRoot x) ≡ true → edgeRoot x .value ≡ root (larger x 0f)
 unfolding edgeRoot
-edge-root x h = edge-value x (x <₆₄ neg 1e-12) h
+edge-root x h = edge-value x (x <₆₄ neg radicandTolerance) h
 
 slope-again : (cy ky y : Float) → rootAgain (slopeRadicand cy ky y) (larger (baseCurveRadicand cy ky y) 0f) (root (larger (baseCurveRadicand cy ky y) 0f)) ≡ root (slopeRadicand cy ky y)
 unfolding slopeRadicand baseCurveRadicand

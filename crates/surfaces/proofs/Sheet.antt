@@ -1,27 +1,26 @@
 -- The sag at a root lies between two that need no root, so a number that is near to both is near to it. Assumes nothing.
-use mathlib.Core.Path.{_≡_}
+use mathlib.Core.Path.{_≡_, refl}
 use Prim.Native.Nat.{_+_, _-_, _*_, _^_, _≤_, _<_}
 use native.Mathlib.Nat.{le-of-lt}
 use native.Mathlib.Omega.{arith}
-use mathlib.Core.Bool.{Bool, true, false, not, _&&_, _||_}
-use borrow.Author.Tests.{le-ltb}
+use mathlib.Core.Bool.{Bool, true, false, not, _&&_, _||_, false≢true}
 use lib.Dec.{T, lit≤}
-use lib.Ieee.{Float, binary64, up, down, fits, neg, mul, add, lt}
+use lib.Ieee.{Float, binary64, fits, neg, mul, add, lt}
 use lib.Ieee.Fits.{add-fits, sub-fits}
 use lib.Ieee.Scale.{finite}
 use lib.Ieee.Positive.{num, den, positive}
-use Rattle.numbers.specs.Arithmetic.{_+₆₄_, _-₆₄_, _*₆₄_, _/₆₄_, _<₆₄_, decimal, 0f, 1f, 4f, 1e-4, 1e-7, 1e-15}
+use Rattle.numbers.specs.Arithmetic.{_+₆₄_, _-₆₄_, _*₆₄_, _/₆₄_, _<₆₄_, decimal, 0f, 1f, 4f, 1e-7, 1e-15}
 use Rattle.numbers.specs.Basic.{magnitude}
 use Rattle.numbers.specs.Sqrt.{root, AboveZero}
 use Rattle.numbers.proofs.Nearest.{none-nearer}
-use Rattle.numbers.proofs.Plain.{Plain, plain, plain-finite, minus-finite, plain-magnitude, below, of-positive}
+use Rattle.numbers.proofs.Plain.{Plain, plain, plain-finite, minus-finite, plain-magnitude, below, at-most-below, of-positive}
 use Rattle.numbers.proofs.Signs.{exceeding}
 use Rattle.numbers.proofs.Finite.{finite-number, finite-factor, finite-minuend, finite-summand}
 use Rattle.numbers.proofs.Mirror.{mul-neg, div-neg, sub-neg}
 use Rattle.numbers.proofs.Bounds.{exact, grows, product, total, quotient, rest, near}
 use Rattle.numbers.proofs.Exceeds.{no-lower}
 use Rattle.numbers.proofs.RootBounds.{root-bounded, square-bounded}
-use Rattle.surfaces.specs.Conic.{SagNear, conicSag, onSheet}
+use Rattle.surfaces.specs.Conic.{SagNear, conicFactor, conicEdge, conicSag, sheetTolerance, onSheet}
 use Rattle.surfaces.specs.declared.types.Vec3.{Vec3}
 use Rattle.surfaces.specs.declared.conic.ConicSurface.{ConicSurface}
 use Rattle.surfaces.proofs.Choice.{both, nor}
@@ -69,9 +68,10 @@ more : den 1+1e-9 * 2 ^ 52 ≤ num 1+1e-9 * (2 ^ 52 - 1)
 unfolding decimal
 more = lit≤ tt
 
-not-outside : {x : Float} → Plain x → (x <₆₄ 0f) ≡ false
-unfolding lt decimal
-not-outside (plain m e) = le-ltb (m * up e * 1) (0 * 1 * down e) (omega arith)
+not-outside : {x : Float} → Plain x → (b : Bool) → (x <₆₄ conicEdge) ≡ b → b ≡ false
+unfolding lt decimal neg
+not-outside p false h = refl
+not-outside p true h = absurd (false≢true (at-most-below conicEdge zero p (omega arith) h))
 
 -- ---- the law
 
@@ -92,7 +92,7 @@ module _ (z c b sq guess : Float) where
       let above = (0f <₆₄ z) && (0f <₆₄ c) && (0f <₆₄ b) && (1e-15 *₆₄ 1e-15 <₆₄ sq) && (0f <₆₄ least) && (least <₆₄ most) in
       let small = (high <₆₄ 1e9) && (c *₆₄ high <₆₄ 1e9) && (b *₆₄ high <₆₄ 1f) && (1f +₆₄ most <₆₄ 4f) && (deep <₆₄ 1e9) in
       let rooted = (least *₆₄ least <₆₄ 1f -₆₄ b *₆₄ high) && (1f -₆₄ b *₆₄ low <₆₄ most *₆₄ most) in
-      above && small && rooted && (z -₆₄ shallow <₆₄ 1e-4) && (deep -₆₄ z <₆₄ 1e-4)
+      above && small && rooted && (z -₆₄ shallow <₆₄ sheetTolerance) && (deep -₆₄ z <₆₄ sheetTolerance)
 
   pub sure-near : T (fits binary64 sq) → sure ≡ true → SagNear z c b (root sq) × SagNear (neg z) (neg c) b (root sq)
   sure-near f h =
@@ -127,7 +127,7 @@ module _ (z c b sq guess : Float) where
       let S = quotient N D 1e9 d deep< in
       let Z = of-positive z (finite-minuend _ (exceeding z zero z+) (S .low) shallow) in
       let P = of-positive r (none-nearer sq X .above-zero .1) in
-      let n : SagNear z c b r = record { curved = plain-finite C; placed = plain-finite P; beside = rw (plain-magnitude P) (no-lower sq 1e-15 X tiny sq+); inside = not-outside (R .self); close = near Z S _ shallow deep } in (
+      let n : SagNear z c b r = record { curved = plain-finite C; placed = plain-finite P; beside = rw (plain-magnitude P) (no-lower sq 1e-15 X tiny sq+); inside = not-outside (R .self) _ refl; close = near Z S _ shallow deep } in (
         n,
         record {
           curved = minus-finite C;
@@ -141,6 +141,6 @@ module _ (z c b sq guess : Float) where
 -- ---- what it says of a surface
 
 pub near-on-sheet : (s : ConicSurface) (p : Vec3) (r : Float) → (not (finite (s .conic)) || (magnitude (s .curvature) <₆₄ 1e-15)) ≡ false →
-    SagNear (p .z -₆₄ s .vertex) (s .curvature) ((1f +₆₄ s .conic) *₆₄ s .curvature *₆₄ s .curvature) r → onSheet s p r ≡ true
+    SagNear (p .z -₆₄ s .vertex) (s .curvature) (conicFactor (s .curvature) (s .conic)) r → onSheet s p r ≡ true
 unfolding onSheet conicSag
 near-on-sheet s p r h n = let (k, c) = nor (finite (s .conic)) (magnitude (s .curvature) <₆₄ 1e-15) h in rw (n .placed, n .curved, k, c, n .beside, n .inside, n .close)

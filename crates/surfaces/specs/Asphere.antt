@@ -37,9 +37,13 @@ slopeSumFrom i sum (a ∷ l) e p r2 =
 abbrev pub slopeSum : List Float → Float → Float → Float → Float
 slopeSum l e p r2 = slopeSumFrom 0 0f l e p r2
 
--- the root in every sag but the conic's: only a radicand below -1e-12 is refused, and one below 0 counts as 0
+-- how far below 0 a radicand may lie in every sag but the conic's
+abbrev pub radicandTolerance : Float
+radicandTolerance = 1e-12
+
+-- the root in such a sag: a radicand below 0 that is not refused counts as 0
 unfoldable pub edgeRoot : Float → Told Float
-edgeRoot radicand = if radicand <₆₄ neg 1e-12 then noNumber 5 else gives (root (larger radicand 0f))
+edgeRoot radicand = if radicand <₆₄ neg radicandTolerance then noNumber 5 else gives (root (larger radicand 0f))
 
 -- the conic base of an asphere: its root, which is 1 where the base is flat, and from that its sag and slope
 unfoldable pub baseRoot : Float → Float → Float → Told Float

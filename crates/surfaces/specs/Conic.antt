@@ -45,14 +45,22 @@ withVertex s z = conicSurface z (s .curvature) (s .conic) (s .semi)
 unfoldable pub radiusOf : Float → Float
 radiusOf c = if magnitude c <₆₄ 1e-15 then 1f /₆₄ 0f else 1f /₆₄ c
 
+-- the factor of r² in a conic's radicand
+abbrev pub conicFactor : Float → Float → Float
+conicFactor c k = (1f +₆₄ k) *₆₄ c *₆₄ c
+
+-- the least radicand that the conic's sag takes
+abbrev pub conicEdge : Float
+conicEdge = 0f
+
 -- the Rust's conic_sag
 unfoldable pub conicSag : Float → Float → Float → Told Float
 conicSag r c k =
     let rSq = r *₆₄ r in
-    let radicand = 1f -₆₄ (1f +₆₄ k) *₆₄ c *₆₄ c *₆₄ rSq in
+    let radicand = 1f -₆₄ conicFactor c k *₆₄ rSq in
     if not (finite r && finite c && finite k) then noNumber 4 else
     if (magnitude c <₆₄ 1e-15) || (magnitude r <₆₄ 1e-15) then gives 0f else
-    if radicand <₆₄ 0f then noNumber 5 else
+    if radicand <₆₄ conicEdge then noNumber 5 else
     gives ((c *₆₄ rSq) /₆₄ (1f +₆₄ root radicand))
 
 unfoldable pub conicSagAnswer : Float → Float → Float → Told Float
@@ -86,29 +94,36 @@ conicNormalAnswer p s = handedOut 4 zeros allFinite (allFinite p && conicFinite 
 unfoldable pub landedWithin : Float → Vec3 → Float → Float → Told Landing
 landedWithin t p r semi = if semi <₆₄ r then refused noLanding (vignetted r semi) else gives (landing t p)
 
+-- a ray along the planes that lie across the axis
+abbrev pub parallel : Ray → Bool
+parallel ray = magnitude (ray .direction .z) <₆₄ 1e-15
+
 unfoldable pub planeCrossing : Ray → ConicSurface → Told Landing
 planeCrossing ray s =
-    let dz = ray .direction .z in
-    let raw = neg (ray .origin .z -₆₄ s .vertex) /₆₄ dz in
+    let raw = neg (ray .origin .z -₆₄ s .vertex) /₆₄ ray .direction .z in
     let t = larger raw 0f in
     let p = pointAt ray t in
-    if magnitude dz <₆₄ 1e-15 then noCrossing 6 else
+    if parallel ray then noCrossing 6 else
     if raw <₆₄ neg 1e-7 then noCrossing 6 else
     landedWithin t p (distance (p .x) (p .y)) (s .semi)
 
--- the sheet through the vertex: a point whose sag exists, and whose local z is within 1e-4 of it
+-- how far from the sag the local z of a point on the sheet may be
+abbrev pub sheetTolerance : Float
+sheetTolerance = 1e-4
+
+-- the sheet through the vertex: a point whose sag exists, and whose local z is within the tolerance of it
 unfoldable pub onSheet : ConicSurface → Vec3 → Float → Bool
 onSheet s p r =
     let z = conicSag r (s .curvature) (s .conic) in
-    done z && (magnitude (p .z -₆₄ s .vertex -₆₄ z .value) <₆₄ 1e-4)
+    done z && (magnitude (p .z -₆₄ s .vertex -₆₄ z .value) <₆₄ sheetTolerance)
 
--- What a test without roots shows, for b = (1 + k) * c * c: the sag at r is by the formula, and z is within 1e-4 of it.
+-- What a test without roots shows, for the factor b: the sag at r is by the formula, and z is within the tolerance of it.
 pub record SagNear (z c b r : Float) : Type 0 where
   pub curved : finite c ≡ true
   pub placed : finite r ≡ true
   pub beside : (magnitude r <₆₄ 1e-15) ≡ false
-  pub inside : (1f -₆₄ b *₆₄ (r *₆₄ r) <₆₄ 0f) ≡ false
-  pub close : (magnitude (z -₆₄ (c *₆₄ (r *₆₄ r)) /₆₄ (1f +₆₄ root (1f -₆₄ b *₆₄ (r *₆₄ r)))) <₆₄ 1e-4) ≡ true
+  pub inside : (1f -₆₄ b *₆₄ (r *₆₄ r) <₆₄ conicEdge) ≡ false
+  pub close : (magnitude (z -₆₄ (c *₆₄ (r *₆₄ r)) /₆₄ (1f +₆₄ root (1f -₆₄ b *₆₄ (r *₆₄ r)))) <₆₄ sheetTolerance) ≡ true
 
 -- the first of the candidates that is on the sheet decides
 unfoldable pub firstOn : Ray → ConicSurface → List Float → Told Landing

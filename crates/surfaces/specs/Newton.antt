@@ -8,7 +8,7 @@ use Rattle.numbers.specs.Arithmetic.{_+₆₄_, _-₆₄_, _*₆₄_, _/₆₄_
 use Rattle.numbers.specs.Basic.{magnitude}
 use Rattle.surfaces.specs.Types.{distance, pointAt, landing, noLanding, landingFinite, rayFinite}
 use Rattle.surfaces.specs.Told.{handedOut, Told, Depths, Ended, gives, done, again, ended, noCrossing}
-use Rattle.surfaces.specs.Conic.{landedWithin}
+use Rattle.surfaces.specs.Conic.{landedWithin, parallel}
 use Rattle.surfaces.specs.declared.types.Vec3.{Vec3}
 use Rattle.surfaces.specs.declared.types.Ray.{Ray}
 use Rattle.surfaces.specs.declared.types.Landing.{Landing}
@@ -72,7 +72,7 @@ passesFrom q vertex ray (suc left) made t =
 -- the Rust's intersect_ray, with the passes that it takes
 unfoldable pub newtonEnd : Shape → Float → Ray → Ended
 newtonEnd q vertex ray =
-    if magnitude (ray .direction .z) <₆₄ 1e-15 then ended (noCrossing 6) 1 else
+    if parallel ray then ended (noCrossing 6) 1 else
     passesFrom q vertex ray (q .limit) 0 (vertexPlane vertex ray)
 
 -- what a single intersection tests before it: all numbers finite, and no negative semi-diameter
@@ -89,7 +89,7 @@ passStart vertex ray made t = if eqb made 0 then vertexPlane vertex ray else t
 -- the pass after `made` passes: the test of dz belongs to the first
 unfoldable pub nextPass : Shape → Float → Ray → ℕ → Float → Told Landing
 nextPass q vertex ray made t =
-    if eqb made 0 && (magnitude (ray .direction .z) <₆₄ 1e-15) then noCrossing 6 else
+    if eqb made 0 && parallel ray then noCrossing 6 else
     passAt q vertex ray (passStart vertex ray made t)
 
 -- the same with the limit: the last pass ends in a miss if in nothing else

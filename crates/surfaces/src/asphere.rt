@@ -31,6 +31,9 @@ use numbers::is_finite;
 use numbers::max;
 use numbers::sqrt;
 
+// How far below 0 a radicand may lie in every sag but the conic's.
+const RADICAND_TOLERANCE: f64 = 1e-12;
+
 // Rust's curvature, conic_constant, semi_diameter_mm and coefficients.
 pub struct EvenAsphere {
     pub curvature: f64,
@@ -70,7 +73,7 @@ pub(crate) fn edge_root(radicand: f64) -> EdgeRoot
 pub(crate) fn edge_root_beside(radicand: f64, near: f64) -> EdgeRoot
     ensures { λ r. ⌜ toldEdgeRoot r ≡ edgeRoot radicand ⌝ }
 {
-    if radicand < -1e-12 {
+    if radicand < -RADICAND_TOLERANCE {
         return EdgeRoot::Outside;
     }
     EdgeRoot::Is(root_beside(max(radicand, 0.0), max(near, 0.0)))

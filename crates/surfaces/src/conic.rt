@@ -33,6 +33,12 @@ use numbers::max;
 use numbers::root_exceeds;
 use numbers::sqrt;
 
+// The least radicand that the conic's sag takes.
+const CONIC_EDGE: f64 = 0.0;
+
+// How far from the sag the local z of a point on the sheet through the vertex may be.
+const SHEET_TOLERANCE: f64 = 1e-4;
+
 // Rust's vertex_z, curvature, conic_constant and semi_diam_mm.
 pub struct ConicSurface {
     pub vertex: f64,
@@ -149,7 +155,7 @@ fn raw_sag(r: f64, c: f64, k: f64, near: f64) -> Sag
     }
     let r_sq = r * r;
     let radicand = 1.0 - (1.0 + k) * c * c * r_sq;
-    if radicand < 0.0 {
+    if radicand < CONIC_EDGE {
         return Sag::Refused(Refusal::GeometryOutsideAperture);
     }
     let root = root_beside(radicand, 1.0 - (1.0 + k) * c * c * near);
@@ -238,9 +244,10 @@ fn plane_crossing(ray: Ray, s: ConicSurface) -> Crossing
     landed_within(t, p, p.x * p.x + p.y * p.y, s.semi)
 }
 
-// Whether z is surely within 1e-4 of the sag at r, the root of sq, for a curvature c above 0 and b = (1 + k) * c * c. No root is worked out: r * r lies
-// beside sq, the radicand's root beside `guess` if the squares say so, and the sag between those that these bounds give. Other kinds of c and b, and
-// numbers near 0 or beyond 1e9, are left to the rule. 1e-9 and 1e-7 are wide for what rounding does and narrow beside 1e-4.
+// Whether z is surely within the tolerance of the sag at r, the root of sq, for a curvature c above 0 and
+// b = (1 + k) * c * c. No root is worked out: r * r lies beside sq, the radicand's root beside `guess` if the squares
+// say so, and the sag between those that these bounds give. Other kinds of c and b, and numbers near 0 or beyond 1e9,
+// are left to the rule. 1e-9 and 1e-7 are wide for what rounding does and narrow beside the tolerance.
 fn surely_near(z: f64, c: f64, b: f64, sq: f64, guess: f64) -> bool
     ensures { λ t. ⌜ (t ≡ true → SagNear z c b (root sq) × SagNear (neg z) (neg c) b (root sq)) ⌝ }
 {
@@ -262,7 +269,7 @@ fn surely_near(z: f64, c: f64, b: f64, sq: f64, guess: f64) -> bool
         & (1.0 + most < 4.0)
         & (deep < 1e9);
     let rooted = (least * least < 1.0 - b * high) & (1.0 - b * low < most * most);
-    above & small & rooted & (z - shallow < 1e-4) & (deep - z < 1e-4)
+    above & small & rooted & (z - shallow < SHEET_TOLERANCE) & (deep - z < SHEET_TOLERANCE)
 }
 
 // Whether a point surely lies on the sheet through the vertex. There the radicand's root is 1 - (1 + k) * c * z.
@@ -292,7 +299,7 @@ fn on_sheet(s: ConicSurface, p: Vec3, sq: f64) -> bool
         return true;
     }
     match raw_sag(sqrt(sq), s.curvature, s.conic, sq) {
-        Sag::At(z) => abs(p.z - s.vertex - z) < 1e-4,
+        Sag::At(z) => abs(p.z - s.vertex - z) < SHEET_TOLERANCE,
         Sag::Refused(_) => false,
     }
 }

@@ -58,6 +58,7 @@ def read(path):
             old = text
         elif word == "new:":
             changes.append(Change(file, old, text))
+            old = ""
         else:
             raise Unfit(f"{line!r} is no part of an edit")
     return Edit(path.stem, *head, changes)

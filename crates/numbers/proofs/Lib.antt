@@ -2,6 +2,7 @@
 mod Roots
 mod Patterns
 mod Scale
+pub mod Cases
 pub mod Plain
 pub mod Signs
 pub mod Finite

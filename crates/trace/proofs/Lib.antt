@@ -1,4 +1,5 @@
 -- Laws that several proofs use, and demand 3.
+pub mod Cases
 pub mod Lists
 pub mod Passes
 pub mod Endings
@@ -14,4 +15,3 @@ pub mod Demand3
 pub mod Wholes
 pub mod Files
 pub mod Long
-pub mod Example

@@ -8,3 +8,4 @@ pub mod Demand3
 pub mod File
 pub mod Long
 pub mod Example
+pub mod Cases

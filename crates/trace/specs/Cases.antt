@@ -1,0 +1,210 @@
+-- Worked cases of start, continue and whole, document 01's example among them: one list, which one theorem covers.
+-- A row has a rule's answer and the paper's, each as numbers: the answer's number and place, the state's counts, and
+-- the bit patterns of the state's numbers and of the whole result buffer. Assumes nothing.
+use Prim.Native.Nat.{ℕ, _+_, _*_, _^_}
+use mathlib.Core.Path.{_≡_, refl}
+use mathlib.Core.Bool.{true, false}
+use mathlib.Core.List.{List, [], _∷_, _++_, map}
+use lib.ListN.{length, replicate}
+use lib.Ieee.{Float, nan, inf, binary64, ofBits, toBits, ofInt, neg, round, add, sub, mul, div, lt, le, eq, isNan}
+use Rattle.numbers.specs.Arithmetic.{decimal, 0f, 1f, 2f, 4f}
+use Rattle.numbers.specs.Basic.{magnitude, negative, larger, clamped, infinite}
+use Rattle.numbers.specs.Sqrt.{root}
+use Rattle.surfaces.specs.Types.{vec, zeros, dotOf, overOf, distance, pointAt, allFinite, rayFinite, everyFinite}
+use Rattle.surfaces.specs.Snell.{turnedIf, negatedIf, mirrored, reflected, bent, refracted}
+use Rattle.surfaces.specs.Conic.{landedWithin, planeCrossing, conicCrossing, normalAt}
+use Rattle.surfaces.specs.Newton.{arrivedAt, movedBy, passAt, vertexPlane, passesFrom, newtonEnd, passStart, nextPass, limitedPass}
+use Rattle.surfaces.specs.Asphere.{powerSumFrom, slopeSumFrom, baseRoot, baseSag, baseSlope, evenDepth, evenSlopeFrom, evenSlope, radialSlopes, evenSlopes, lengthOf, facingOf, evenFacing, evenNormal}
+use Rattle.surfaces.specs.Surface.{passRule, surfaceEnd, limitOf, surfaceNormal, onwardFrom, turnRule}
+use Rattle.surfaces.specs.Edges.{_over_, whole, bits, coordinates, Case, _⇒_, agree, ray}
+use Rattle.surfaces.specs.declared.types.Vec3.{Vec3}
+use Rattle.recipe.specs.Endian.{u16At, u64At, numberAt, numbersAt}
+use Rattle.recipe.specs.Record.{slotAt, lengthFits, shapedAt, semiSlot, kindOf, coefficientCount, coefficientsAt, opticAt, negativeSemi, recordAt}
+use Rattle.recipe.specs.Scan.{scan, placeOf, notes}
+use Rattle.recipe.specs.Source.{isSource, vectorAt, sourceOf}
+use Rattle.trace.specs.declared.leg.Beam.{Beam}
+use Rattle.trace.specs.declared.state.State.{State}
+use Rattle.trace.specs.Leg.{boundaryOf, farther, legFinite, legOf, beamAfter, hitRow, refusalRow, rowOf}
+use Rattle.trace.specs.Unbroken.{unbroken, total, rows, padded}
+use Rattle.trace.specs.State.{pausedAt, stateAfter, surfaceLeft, stepOn, move, advance, outcomeKnown, placeFits, passesFit, beamGood, fitsOf}
+use Rattle.trace.specs.Trace.{recipeOf, Reply, reply, refusedAnswer, admission, startAt, startOf, startFileOf, continueOn, continueOf, wholeOf}
+use Rattle.trace.specs.Example.{bytes, patterns, beamRecord, planeRecord}
+
+-- a reply as numbers
+unfoldable pub beamShown : Beam → List ℕ
+beamShown b = bits (coordinates (b .ray .origin) ++ coordinates (b .ray .direction) ++ b .index ∷ b .path ∷ [])
+
+unfoldable pub stateShown : State → List ℕ
+stateShown s = s .number ∷ s .place ∷ s .passes ∷ s .steps ∷ s .outcome ∷ bits (s .t ∷ []) ++ beamShown (s .beam)
+
+unfoldable pub shown : Reply → List ℕ
+shown r = r .answer .number ∷ r .answer .place ∷ stateShown (r .answer .state) ++ bits (r .buffer)
+
+-- what a call on a recipe leaves; the `let` makes the recipe's bytes once
+unfoldable pub on : List ℕ → (List ℕ → Reply) → List ℕ
+on recipe call = let b = recipe in shown (call b)
+
+-- the numbers that continuations of these states are answered with, where there is room for two records
+unfoldable pub answered : List ℕ → List State → List ℕ
+answered recipe l =
+    let b = recipe in
+    let r = recipeOf b in
+    map (λ s. continueOn r (length b) s (replicate 26 0f) 0 .answer .number) l
+
+abbrev pub state : ℕ → ℕ → ℕ → Float → Beam → ℕ → ℕ → State
+state number place passes t b steps outcome =
+    record { number = number; place = place; passes = passes; t = t; beam = b; steps = steps; outcome = outcome }
+
+abbrev pub beam : Vec3 → Vec3 → Float → Float → Beam
+beam origin direction index path = record { ray = ray origin direction; index = index; path = path }
+
+abbrev pub z : Vec3
+z = vec 0f 0f 1f
+
+abbrev pub -z : Vec3
+-z = vec 0f 0f (neg 1f)
+
+-- a hit's record, by t, point, normal, new direction, front face and steps
+abbrev pub hit : Float → Vec3 → Vec3 → Vec3 → Float → Float → List Float
+hit t p n d front steps = 1f ∷ t ∷ coordinates p ++ coordinates n ++ coordinates d ++ front ∷ steps ∷ []
+
+abbrev pub blanks : ℕ → List Float
+blanks n = replicate n 0f
+
+-- a refusal's record, by status, r, limit and steps
+abbrev pub refusal : Float → Float → Float → Float → List Float
+refusal status r limit steps = status ∷ r ∷ limit ∷ blanks 9 ++ steps ∷ []
+
+-- a buffer that holds the last lens's numbers
+abbrev pub stale : ℕ → List Float
+stale n = replicate n 1f
+
+-- a surface's record, by its kind and its numbers
+abbrev pub surface : ℕ → List Float → List ℕ
+surface kind l = bytes 2 (2 + 8 * length l) ++ bytes 2 kind ++ patterns (bits l)
+
+-- planes, by vertex z, index and semi-diameter
+abbrev pub plane : Float → Float → Float → List ℕ
+plane v index semi = surface 1 (v ∷ index ∷ 0f ∷ 0f ∷ semi ∷ [])
+
+abbrev pub mirror : Float → Float → Float → List ℕ
+mirror v index semi = surface 257 (v ∷ index ∷ 0f ∷ 0f ∷ semi ∷ [])
+
+-- document 01's even asphere, z = r² / 8 into index 1, by its semi-diameter
+abbrev pub bowl : Float → List ℕ
+bowl semi = surface 2 (0f ∷ 1f ∷ 0f ∷ 0f ∷ semi ∷ 1 over 8 ∷ [])
+
+-- The lens: a plane at 0 into index 2, and an even asphere of vertex z 4 into index 1, whose sag r² / 4 - r⁴ / 128 is 2 at r 4 and level there. A ray along z at
+-- x 4 meets the plane in 1 step and the asphere in 2, and goes on along z.
+unfoldable pub lens : List ℕ
+lens = plane 0f 2f (whole 10) ++ surface 2 (4f ∷ 1f ∷ 0f ∷ 0f ∷ whole 5 ∷ 1 over 4 ∷ neg (1 over 128) ∷ [])
+
+-- 1 / √2, each rounded
+abbrev pub √½ : Float
+√½ = ofBits binary64 0x3fe6_a09e_667f_3bcc
+
+-- the beam before the lens, in it, and behind it
+abbrev pub before : Beam
+before = beam (vec 4f 0f (neg 1f)) z 1f 0f
+
+abbrev pub inside : Beam
+inside = beam (vec 4f 0f 0f) z 2f 1f
+
+abbrev pub behind : Beam
+behind = beam (vec 4f 0f (whole 6)) z 1f (whole 7)
+
+-- its records
+abbrev pub first : List Float
+first = hit 1f (vec 4f 0f 0f) -z z 1f 1f
+
+abbrev pub second : List Float
+second = hit (whole 6) (vec 4f 0f (whole 6)) -z z 1f 2f
+
+-- a plane at 0 into index 2, a mirror at 4 whose record says 3, a plane at 2 into index 1
+unfoldable pub folded : List ℕ
+folded = plane 0f 2f (whole 10) ++ mirror 4f (whole 3) (whole 10) ++ plane 2f 1f (whole 10)
+
+-- three planes, of which a ray at x 2 misses the second
+unfoldable pub narrow : List ℕ
+narrow = plane 0f 1f (whole 10) ++ plane 1f 1f 1f ++ plane 2f 1f (whole 10)
+
+-- a state that does not fit the lens
+abbrev pub unfit : State
+unfit = state 0 44 7 nan inside 5 3
+
+unfoldable pub cases : List Case
+cases =
+    -- document 01's example: the start of its file takes no step and blanks the whole buffer, and its trace is as printed
+    (on (beamRecord ++ planeRecord) (λ b. startFileOf b (stale 14)) ⇒ shown (reply 1 0 (state 0 0 0 0f (beam (vec 0f 0f (neg (whole 5))) z 1f 0f) 0 0) (blanks 14))) ∷
+    (on planeRecord (λ b. wholeOf b (ray (vec 0f 0f (neg (whole 5))) z) 1f (stale 14)) ⇒
+    shown (reply 1 0 (state 1 44 0 0f (beam zeros z 2f (whole 5)) 1 1) (hit (whole 5) zeros -z z 1f 1f ++ blanks 1))) ∷
+    -- the lens: a start; no step; one, which ends the plane; two, the second in the middle of the asphere; from there to the end, and none once ended
+    (on lens (λ b. startOf b (before .ray) 1f (stale 27)) ⇒ shown (reply 1 0 (state 0 0 0 0f before 0 0) (blanks 27))) ∷
+    (on lens (λ b. continueOf b (state 0 0 0 0f before 0 0) (blanks 27) 0) ⇒ shown (reply 1 0 (state 0 0 0 0f before 0 0) (blanks 27))) ∷
+    (on lens (λ b. continueOf b (state 0 0 0 0f before 0 0) (blanks 27) 1) ⇒ shown (reply 1 0 (state 1 44 0 0f inside 1 0) (first ++ blanks 14))) ∷
+    (on lens (λ b. continueOf b (state 0 0 0 0f before 0 0) (blanks 27) 2) ⇒ shown (reply 1 0 (state 1 44 1 (whole 6) inside 2 0) (first ++ blanks 14))) ∷
+    (on lens (λ b. continueOf b (state 1 44 1 (whole 6) inside 2 0) (first ++ blanks 14) 9) ⇒ shown (reply 1 0 (state 2 104 0 0f behind 3 1) (first ++ second ++ blanks 1))) ∷
+    -- the same in one call
+    (on lens (λ b. wholeOf b (before .ray) 1f (stale 27)) ⇒ shown (reply 1 0 (state 2 104 0 0f behind 3 1) (first ++ second ++ blanks 1))) ∷
+    -- t so far may be any number and is unused at pass count 0
+    (on lens (λ b. continueOf b (state 1 44 0 nan inside 1 0) (first ++ blanks 14) 1) ⇒ shown (reply 1 0 (state 1 44 1 (whole 6) inside 2 0) (first ++ blanks 14))) ∷
+    -- no records: done at once
+    (on [] (λ b. startOf b (before .ray) 1f (stale 1)) ⇒ shown (reply 1 0 (state 0 0 0 0f before 0 1) (blanks 1))) ∷
+    -- a mirror between media: its index 3 is not used, and the beam stays in index 2
+    (on folded (λ b. wholeOf b (ray (vec 0f 0f (neg 1f)) z) 1f (stale 39)) ⇒
+    shown (reply 1 0 (state 3 132 0 0f (beam (vec 0f 0f 2f) -z 1f (whole 7)) 3 1)
+    (hit 1f zeros -z z 1f 1f ++ hit 4f (vec 0f 0f 4f) -z -z 1f 1f ++ hit 2f (vec 0f 0f 2f) -z -z 0f 1f))) ∷
+    (on folded (λ b. continueOf b (state 1 44 0 0f (beam zeros z 2f 1f) 1 0) (blanks 39) 1) ⇒
+    shown (reply 1 0 (state 2 88 0 0f (beam (vec 0f 0f 4f) -z 2f (whole 5)) 2 0) (blanks 13 ++ hit 4f (vec 0f 0f 4f) -z -z 1f 1f ++ blanks 13))) ∷
+    -- so it is totally reflected at the bowl behind a mirror of index 1, which from index 1 it would pass
+    (on (mirror 4f 1f (whole 10) ++ bowl (whole 5)) (λ b. wholeOf b (before .ray) 2f (stale 26)) ⇒
+    shown (reply 1 0 (state 1 44 0 0f (beam (vec 4f 0f 4f) -z 2f (whole 5)) 3 8) (hit (whole 5) (vec 4f 0f 4f) -z -z 1f 1f ++ refusal (whole 8) 0f 0f 2f))) ∷
+    -- a refusal in the middle, 7 with r and limit: +0.0 behind its record, the beam of the hit before it, and no step more
+    (on narrow (λ b. wholeOf b (ray (vec 2f 0f (neg 1f)) z) 1f (stale 40)) ⇒
+    shown (reply 1 0 (state 1 44 0 0f (beam (vec 2f 0f 0f) z 1f 1f) 2 7) (hit 1f (vec 2f 0f 0f) -z z 1f 1f ++ refusal (whole 7) 2f 1f 1f ++ blanks 14))) ∷
+    (on narrow (λ b. continueOf b (state 1 44 0 0f (beam (vec 2f 0f 0f) z 1f 1f) 1 0) (blanks 40) 9) ⇒
+    shown (reply 1 0 (state 1 44 0 0f (beam (vec 2f 0f 0f) z 1f 1f) 2 7) (blanks 13 ++ refusal (whole 7) 2f 1f 1f ++ blanks 14))) ∷
+    -- 9: t would be infinite
+    (on (plane (whole (10 ^ 308)) 1f (whole 10)) (λ b. wholeOf b (ray (vec 0f 0f (neg (whole (10 ^ 308)))) z) 1f (stale 13)) ⇒
+    shown (reply 1 0 (state 0 0 0 0f (beam (vec 0f 0f (neg (whole (10 ^ 308)))) z 1f 0f) 1 9) (refusal (whole 9) 0f 0f 1f))) ∷
+    -- document 01's even asphere: a hit with the normal (√½, 0, -√½) after 2 steps, 7 after 2, 6 after 1
+    (on (bowl (whole 5)) (λ b. wholeOf b (before .ray) 1f (stale 13)) ⇒
+    shown (reply 1 0 (state 1 52 0 0f (beam (vec 4f 0f 2f) z 1f (whole 3)) 2 1) (hit (whole 3) (vec 4f 0f 2f) (vec √½ 0f (neg √½)) z 1f 2f))) ∷
+    (on (bowl (whole 3)) (λ b. wholeOf b (before .ray) 1f (stale 13)) ⇒ shown (reply 1 0 (state 0 0 0 0f before 2 7) (refusal (whole 7) 4f (whole 3) 2f))) ∷
+    (on (bowl 2f) (λ b. wholeOf b (before .ray) 1f (stale 13)) ⇒ shown (reply 1 0 (state 0 0 0 0f before 1 6) (refusal (whole 6) 0f 0f 1f))) ∷
+    -- refused starts: +0.0 in the whole buffer, a state of the refusal and zeros, and the place of the record; in a file from its start, and 10 at 0 without a ray
+    (on (plane 0f 1f 1f ++ plane 0f 0f 1f) (λ b. startOf b (ray (vec nan 0f 0f) z) 1f (stale 27)) ⇒ shown (reply 4 44 (state 0 0 0 0f (beam zeros zeros 0f 0f) 0 4) (blanks 27))) ∷
+    (on (beamRecord ++ plane 0f 1f (neg 1f)) (λ b. startFileOf b (stale 13)) ⇒ shown (reply 3 60 (state 0 0 0 0f (beam zeros zeros 0f 0f) 0 3) (blanks 13))) ∷
+    (on planeRecord (λ b. startFileOf b (stale 13)) ⇒ shown (reply 10 0 (state 0 0 0 0f (beam zeros zeros 0f 0f) 0 10) (blanks 13))) ∷
+    -- the ray's 2 before the index's 4 before 11, also for a whole trace
+    (on lens (λ b. startOf b (ray (vec nan 0f 0f) z) 0f (stale 25)) ⇒ shown (reply 2 0 (state 0 0 0 0f (beam zeros zeros 0f 0f) 0 2) (blanks 25))) ∷
+    (on lens (λ b. wholeOf b (before .ray) 0f (stale 25)) ⇒ shown (reply 4 0 (state 0 0 0 0f (beam zeros zeros 0f 0f) 0 4) (blanks 25))) ∷
+    (on lens (λ b. startOf b (before .ray) 1f (stale 25)) ⇒ shown (reply 11 0 (state 0 0 0 0f (beam zeros zeros 0f 0f) 0 11) (blanks 25))) ∷
+    -- refused continuations: the recipe's refusal, then 11, then 12; state and buffer come back as given
+    (on (lens ++ 0 ∷ []) (λ b. continueOf b unfit (stale 25) 9) ⇒ shown (reply 10 104 unfit (stale 25))) ∷
+    (on lens (λ b. continueOf b unfit (stale 25) 9) ⇒ shown (reply 11 0 unfit (stale 25))) ∷
+    (on lens (λ b. continueOf b unfit (stale 26) 9) ⇒ shown (reply 12 0 unfit (stale 26))) ∷
+    -- 12, condition by condition, beside states that are accepted: the outcome, here 0 to 10 before the second surface
+    (answered lens (map (λ o. state 1 44 0 0f inside 1 o) (0 ∷ 1 ∷ 2 ∷ 3 ∷ 4 ∷ 5 ∷ 6 ∷ 7 ∷ 8 ∷ 9 ∷ 10 ∷ [])) ⇒ 1 ∷ 12 ∷ 1 ∷ 12 ∷ 1 ∷ 1 ∷ 1 ∷ 1 ∷ 1 ∷ 1 ∷ 12 ∷ []) ∷
+    -- under outcome 1 the number, which is the count of records, and the place, which is the recipe's end
+    (answered lens (state 2 104 0 0f behind 3 1 ∷ state 1 104 0 0f behind 3 1 ∷ state 2 44 0 0f behind 3 1 ∷ []) ⇒ 1 ∷ 12 ∷ 12 ∷ []) ∷
+    -- under another the place, which is the start of the record with that number; at the count there is none
+    (answered lens (state 0 0 0 0f before 0 0 ∷ state 0 44 0 0f before 0 0 ∷ state 1 0 0 0f inside 1 0 ∷ state 2 104 0 0f behind 3 0 ∷ state 2 0 0 0f behind 3 0 ∷ []) ⇒ 1 ∷ 12 ∷ 12 ∷ 12 ∷ 12 ∷ []) ∷
+    -- the pass count against the limits: conic 1, even asphere 25, biconic and toroid 35
+    (answered lens (state 0 0 1 0f before 0 0 ∷ state 1 44 24 0f inside 1 0 ∷ state 1 44 25 0f inside 1 0 ∷ []) ⇒ 12 ∷ 1 ∷ 12 ∷ []) ∷
+    (answered (surface 3 (0f ∷ 1f ∷ 0f ∷ 0f ∷ 0f ∷ 0f ∷ 1f ∷ []) ++ surface 4 (0f ∷ 1f ∷ 1f ∷ 0f ∷ 0f ∷ 1f ∷ []))
+    (state 0 0 34 0f before 0 0 ∷ state 0 0 35 0f before 0 0 ∷ state 1 60 34 0f inside 1 0 ∷ state 1 60 35 0f inside 1 0 ∷ []) ⇒ 1 ∷ 12 ∷ 1 ∷ 12 ∷ []) ∷
+    -- the pass count once ended, and all steps, of which the limits' sum is 26
+    (answered lens (state 1 44 1 0f inside 2 0 ∷ state 1 44 1 0f inside 2 6 ∷ state 2 104 1 0f behind 3 1 ∷ []) ⇒ 1 ∷ 12 ∷ 12 ∷ []) ∷
+    (answered lens (state 1 44 0 0f inside 26 0 ∷ state 1 44 0 0f inside 27 0 ∷ []) ⇒ 1 ∷ 12 ∷ []) ∷
+    -- ray and path that are not finite; an index that is not finite, 0, or negative
+    (answered lens
+    (map
+    (λ b. state 1 44 0 0f b 1 0)
+    (inside ∷ beam (vec nan 0f 0f) z 2f 1f ∷ beam (vec 4f 0f 0f) (vec 0f 0f (inf false)) 2f 1f ∷ beam (vec 4f 0f 0f) z 2f (inf true) ∷
+    beam (vec 4f 0f 0f) z (inf false) 1f ∷ beam (vec 4f 0f 0f) z nan 1f ∷ beam (vec 4f 0f 0f) z 0f 1f ∷ beam (vec 4f 0f 0f) z (neg 1f) 1f ∷ []))
+    ⇒ 1 ∷ 12 ∷ 12 ∷ 12 ∷ 12 ∷ 12 ∷ 12 ∷ 12 ∷ []) ∷ []
+
+pub each-case : agree cases ≡ true
+unfolding cases lens folded narrow beamShown stateShown shown on answered bits _over_ bytes patterns beamRecord planeRecord decimal magnitude negative larger clamped infinite root neg round add sub mul div lt le eq isNan ofBits toBits ofInt dotOf overOf distance pointAt allFinite rayFinite everyFinite turnedIf negatedIf mirrored reflected bent refracted landedWithin planeCrossing conicCrossing normalAt arrivedAt movedBy passAt vertexPlane passesFrom newtonEnd passStart nextPass limitedPass powerSumFrom slopeSumFrom baseRoot baseSag baseSlope evenDepth evenSlopeFrom evenSlope radialSlopes evenSlopes lengthOf facingOf evenFacing evenNormal passRule surfaceEnd limitOf surfaceNormal onwardFrom turnRule u16At u64At numberAt numbersAt slotAt lengthFits shapedAt semiSlot kindOf coefficientCount coefficientsAt opticAt negativeSemi recordAt scan placeOf notes isSource vectorAt sourceOf boundaryOf farther legFinite legOf beamAfter hitRow refusalRow rowOf unbroken total rows padded pausedAt stateAfter surfaceLeft stepOn move advance outcomeKnown placeFits passesFit beamGood fitsOf refusedAnswer admission startAt startOf startFileOf continueOf wholeOf
+each-case = refl

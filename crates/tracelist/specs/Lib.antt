@@ -1,0 +1,4 @@
+pub mod Listing
+pub mod Shown
+pub mod Parts
+pub mod Cases

@@ -27,22 +27,21 @@ use Rattle.trace.specs.declared.state.State.{State}
 use Rattle.trace.specs.Leg.{boundaryOf, farther, legFinite, legOf, beamAfter, hitRow, refusalRow, rowOf}
 use Rattle.trace.specs.Unbroken.{unbroken, total, rows, padded}
 use Rattle.trace.specs.State.{pausedAt, stateAfter, surfaceLeft, stepOn, move, advance, outcomeKnown, placeFits, passesFit, beamGood, fitsOf}
-use Rattle.trace.specs.Trace.{recipeOf, Reply, reply, refusedAnswer, admission, startAt, startOf, startFileOf, continueOn, continueOf, wholeOf}
+use Rattle.trace.specs.Trace.{recipeOf, Reply, refusedAnswer, admission, startAt, startOf, startFileOf, continueOn, continueOf, wholeOf}
 use Rattle.trace.specs.Example.{bytes, patterns, beamRecord, planeRecord}
 
--- a reply as numbers
-unfoldable pub beamShown : Beam → List ℕ
-beamShown b = bits (coordinates (b .ray .origin) ++ coordinates (b .ray .direction) ++ b .index ∷ b .path ∷ [])
+-- an answer's number and place, a state and a buffer, as numbers
+abbrev pub shown : ℕ → ℕ → State → List Float → List ℕ
+shown number place s z =
+    number ∷ place ∷ s .number ∷ s .place ∷ s .passes ∷ s .steps ∷ s .outcome
+    ∷ bits (s .t ∷ coordinates (s .beam .ray .origin) ++ coordinates (s .beam .ray .direction) ++ s .beam .index ∷ s .beam .path ∷ z)
 
-unfoldable pub stateShown : State → List ℕ
-stateShown s = s .number ∷ s .place ∷ s .passes ∷ s .steps ∷ s .outcome ∷ bits (s .t ∷ []) ++ beamShown (s .beam)
-
-unfoldable pub shown : Reply → List ℕ
-shown r = r .answer .number ∷ r .answer .place ∷ stateShown (r .answer .state) ++ bits (r .buffer)
-
--- what a call on a recipe leaves; the `let` makes the recipe's bytes once
+-- what a call on a recipe leaves; bytes and reply are bound by a `let`, so that each is computed once
 unfoldable pub on : List ℕ → (List ℕ → Reply) → List ℕ
-on recipe call = let b = recipe in shown (call b)
+on recipe call =
+    let b = recipe in
+    let r = call b in
+    shown (r .answer .number) (r .answer .place) (r .answer .state) (r .buffer)
 
 -- the numbers that continuations of these states are answered with, where there is room for two records
 unfoldable pub answered : List ℕ → List State → List ℕ
@@ -57,6 +56,10 @@ state number place passes t b steps outcome =
 
 abbrev pub beam : Vec3 → Vec3 → Float → Float → Beam
 beam origin direction index path = record { ray = ray origin direction; index = index; path = path }
+
+-- the state of a refused start
+abbrev pub refused : ℕ → State
+refused n = state 0 0 0 0f (beam zeros zeros 0f 0f) 0 n
 
 abbrev pub z : Vec3
 z = vec 0f 0f 1f
@@ -94,14 +97,10 @@ mirror v index semi = surface 257 (v ∷ index ∷ 0f ∷ 0f ∷ semi ∷ [])
 abbrev pub bowl : Float → List ℕ
 bowl semi = surface 2 (0f ∷ 1f ∷ 0f ∷ 0f ∷ semi ∷ 1 over 8 ∷ [])
 
--- The lens: a plane at 0 into index 2, and an even asphere of vertex z 4 into index 1, whose sag r² / 4 - r⁴ / 128 is 2 at r 4 and level there. A ray along z at
--- x 4 meets the plane in 1 step and the asphere in 2, and goes on along z.
+-- The lens: a plane at 0 into index 2, then an even asphere of vertex z 4 into index 1, whose sag r² / 4 - r⁴ / 128
+-- at r 4 is 2 and level. A ray along z at x 4 meets the plane in 1 step and the asphere in 2, and keeps its direction.
 unfoldable pub lens : List ℕ
 lens = plane 0f 2f (whole 10) ++ surface 2 (4f ∷ 1f ∷ 0f ∷ 0f ∷ whole 5 ∷ 1 over 4 ∷ neg (1 over 128) ∷ [])
-
--- 1 / √2, each rounded
-abbrev pub √½ : Float
-√½ = ofBits binary64 0x3fe6_a09e_667f_3bcc
 
 -- the beam before the lens, in it, and behind it
 abbrev pub before : Beam
@@ -113,98 +112,127 @@ inside = beam (vec 4f 0f 0f) z 2f 1f
 abbrev pub behind : Beam
 behind = beam (vec 4f 0f (whole 6)) z 1f (whole 7)
 
--- its records
+-- the state after no step, 1, 2 and 3
+abbrev pub started : State
+started = state 0 0 0 0f before 0 0
+
+abbrev pub entered : State
+entered = state 1 44 0 0f inside 1 0
+
+abbrev pub paused : State
+paused = state 1 44 1 (whole 6) inside 2 0
+
+abbrev pub ended : State
+ended = state 2 104 0 0f behind 3 1
+
+-- the two records
 abbrev pub first : List Float
 first = hit 1f (vec 4f 0f 0f) -z z 1f 1f
 
 abbrev pub second : List Float
 second = hit (whole 6) (vec 4f 0f (whole 6)) -z z 1f 2f
 
--- a plane at 0 into index 2, a mirror at 4 whose record says 3, a plane at 2 into index 1
-unfoldable pub folded : List ℕ
-folded = plane 0f 2f (whole 10) ++ mirror 4f (whole 3) (whole 10) ++ plane 2f 1f (whole 10)
-
--- three planes, of which a ray at x 2 misses the second
-unfoldable pub narrow : List ℕ
-narrow = plane 0f 1f (whole 10) ++ plane 1f 1f 1f ++ plane 2f 1f (whole 10)
-
 -- a state that does not fit the lens
 abbrev pub unfit : State
 unfit = state 0 44 7 nan inside 5 3
 
+-- a plane at 0 into index 2, a mirror at 4 whose record says 3, a plane at 2 into index 1
+unfoldable pub folded : List ℕ
+folded = plane 0f 2f (whole 10) ++ mirror 4f (whole 3) (whole 10) ++ plane 2f 1f (whole 10)
+
+-- three planes, of which the second is too small for a ray at x 2
+unfoldable pub narrow : List ℕ
+narrow = plane 0f 1f (whole 10) ++ plane 1f 1f 1f ++ plane 2f 1f (whole 10)
+
+-- the beam between its first and second
+abbrev pub between : Beam
+between = beam (vec 2f 0f 0f) z 1f 1f
+
+-- 1 / √2, both rounded
+abbrev pub √½ : Float
+√½ = ofBits binary64 0x3fe6_a09e_667f_3bcc
+
 unfoldable pub cases : List Case
 cases =
-    -- document 01's example: the start of its file takes no step and blanks the whole buffer, and its trace is as printed
-    (on (beamRecord ++ planeRecord) (λ b. startFileOf b (stale 14)) ⇒ shown (reply 1 0 (state 0 0 0 0f (beam (vec 0f 0f (neg (whole 5))) z 1f 0f) 0 0) (blanks 14))) ∷
+    -- document 01's example: the start of its file takes no step and blanks the whole buffer; its trace is as printed
+    (on (beamRecord ++ planeRecord) (λ b. startFileOf b (stale 14)) ⇒
+    shown 1 0 (state 0 0 0 0f (beam (vec 0f 0f (neg (whole 5))) z 1f 0f) 0 0) (blanks 14)) ∷
     (on planeRecord (λ b. wholeOf b (ray (vec 0f 0f (neg (whole 5))) z) 1f (stale 14)) ⇒
-    shown (reply 1 0 (state 1 44 0 0f (beam zeros z 2f (whole 5)) 1 1) (hit (whole 5) zeros -z z 1f 1f ++ blanks 1))) ∷
-    -- the lens: a start; no step; one, which ends the plane; two, the second in the middle of the asphere; from there to the end, and none once ended
-    (on lens (λ b. startOf b (before .ray) 1f (stale 27)) ⇒ shown (reply 1 0 (state 0 0 0 0f before 0 0) (blanks 27))) ∷
-    (on lens (λ b. continueOf b (state 0 0 0 0f before 0 0) (blanks 27) 0) ⇒ shown (reply 1 0 (state 0 0 0 0f before 0 0) (blanks 27))) ∷
-    (on lens (λ b. continueOf b (state 0 0 0 0f before 0 0) (blanks 27) 1) ⇒ shown (reply 1 0 (state 1 44 0 0f inside 1 0) (first ++ blanks 14))) ∷
-    (on lens (λ b. continueOf b (state 0 0 0 0f before 0 0) (blanks 27) 2) ⇒ shown (reply 1 0 (state 1 44 1 (whole 6) inside 2 0) (first ++ blanks 14))) ∷
-    (on lens (λ b. continueOf b (state 1 44 1 (whole 6) inside 2 0) (first ++ blanks 14) 9) ⇒ shown (reply 1 0 (state 2 104 0 0f behind 3 1) (first ++ second ++ blanks 1))) ∷
-    -- the same in one call
-    (on lens (λ b. wholeOf b (before .ray) 1f (stale 27)) ⇒ shown (reply 1 0 (state 2 104 0 0f behind 3 1) (first ++ second ++ blanks 1))) ∷
+    shown 1 0 (state 1 44 0 0f (beam zeros z 2f (whole 5)) 1 1) (hit (whole 5) zeros -z z 1f 1f ++ blanks 1)) ∷
+    -- the lens in calls: the start; no step; one, which ends the plane; two, which stop in the middle of the asphere;
+    -- from there to the end, and none once ended
+    (on lens (λ b. startOf b (before .ray) 1f (stale 27)) ⇒ shown 1 0 started (blanks 27)) ∷
+    (on lens (λ b. continueOf b started (blanks 27) 0) ⇒ shown 1 0 started (blanks 27)) ∷
+    (on lens (λ b. continueOf b started (blanks 27) 1) ⇒ shown 1 0 entered (first ++ blanks 14)) ∷
+    (on lens (λ b. continueOf b started (blanks 27) 2) ⇒ shown 1 0 paused (first ++ blanks 14)) ∷
+    (on lens (λ b. continueOf b paused (first ++ blanks 14) 9) ⇒ shown 1 0 ended (first ++ second ++ blanks 1)) ∷
+    -- the same in one
+    (on lens (λ b. wholeOf b (before .ray) 1f (stale 27)) ⇒ shown 1 0 ended (first ++ second ++ blanks 1)) ∷
     -- t so far may be any number and is unused at pass count 0
-    (on lens (λ b. continueOf b (state 1 44 0 nan inside 1 0) (first ++ blanks 14) 1) ⇒ shown (reply 1 0 (state 1 44 1 (whole 6) inside 2 0) (first ++ blanks 14))) ∷
+    (on lens (λ b. continueOf b (state 1 44 0 nan inside 1 0) (first ++ blanks 14) 1) ⇒ shown 1 0 paused (first ++ blanks 14)) ∷
+    -- a 25th pass that ends in nothing else is a miss after 25 steps
+    (on lens (λ b. continueOf b (state 1 44 24 0f inside 25 0) (first ++ blanks 14) 1) ⇒
+    shown 1 0 (state 1 44 0 0f inside 26 6) (first ++ refusal (whole 6) 0f 0f (whole 25) ++ blanks 1)) ∷
     -- no records: done at once
-    (on [] (λ b. startOf b (before .ray) 1f (stale 1)) ⇒ shown (reply 1 0 (state 0 0 0 0f before 0 1) (blanks 1))) ∷
+    (on [] (λ b. startOf b (before .ray) 1f (stale 1)) ⇒ shown 1 0 (state 0 0 0 0f before 0 1) (blanks 1)) ∷
     -- a mirror between media: its index 3 is not used, and the beam stays in index 2
     (on folded (λ b. wholeOf b (ray (vec 0f 0f (neg 1f)) z) 1f (stale 39)) ⇒
-    shown (reply 1 0 (state 3 132 0 0f (beam (vec 0f 0f 2f) -z 1f (whole 7)) 3 1)
-    (hit 1f zeros -z z 1f 1f ++ hit 4f (vec 0f 0f 4f) -z -z 1f 1f ++ hit 2f (vec 0f 0f 2f) -z -z 0f 1f))) ∷
+    shown 1 0 (state 3 132 0 0f (beam (vec 0f 0f 2f) -z 1f (whole 7)) 3 1)
+    (hit 1f zeros -z z 1f 1f ++ hit 4f (vec 0f 0f 4f) -z -z 1f 1f ++ hit 2f (vec 0f 0f 2f) -z -z 0f 1f)) ∷
     (on folded (λ b. continueOf b (state 1 44 0 0f (beam zeros z 2f 1f) 1 0) (blanks 39) 1) ⇒
-    shown (reply 1 0 (state 2 88 0 0f (beam (vec 0f 0f 4f) -z 2f (whole 5)) 2 0) (blanks 13 ++ hit 4f (vec 0f 0f 4f) -z -z 1f 1f ++ blanks 13))) ∷
-    -- so it is totally reflected at the bowl behind a mirror of index 1, which from index 1 it would pass
+    shown 1 0 (state 2 88 0 0f (beam (vec 0f 0f 4f) -z 2f (whole 5)) 2 0) (blanks 13 ++ hit 4f (vec 0f 0f 4f) -z -z 1f 1f ++ blanks 13)) ∷
+    -- so from index 2 it is totally reflected at the bowl behind a mirror of index 1, out of which it would pass
     (on (mirror 4f 1f (whole 10) ++ bowl (whole 5)) (λ b. wholeOf b (before .ray) 2f (stale 26)) ⇒
-    shown (reply 1 0 (state 1 44 0 0f (beam (vec 4f 0f 4f) -z 2f (whole 5)) 3 8) (hit (whole 5) (vec 4f 0f 4f) -z -z 1f 1f ++ refusal (whole 8) 0f 0f 2f))) ∷
-    -- a refusal in the middle, 7 with r and limit: +0.0 behind its record, the beam of the hit before it, and no step more
+    shown 1 0 (state 1 44 0 0f (beam (vec 4f 0f 4f) -z 2f (whole 5)) 3 8) (hit (whole 5) (vec 4f 0f 4f) -z -z 1f 1f ++ refusal (whole 8) 0f 0f 2f)) ∷
+    -- a refusal in the middle, 7 with r and limit: blanks behind its record, the beam of the hit before it
     (on narrow (λ b. wholeOf b (ray (vec 2f 0f (neg 1f)) z) 1f (stale 40)) ⇒
-    shown (reply 1 0 (state 1 44 0 0f (beam (vec 2f 0f 0f) z 1f 1f) 2 7) (hit 1f (vec 2f 0f 0f) -z z 1f 1f ++ refusal (whole 7) 2f 1f 1f ++ blanks 14))) ∷
-    (on narrow (λ b. continueOf b (state 1 44 0 0f (beam (vec 2f 0f 0f) z 1f 1f) 1 0) (blanks 40) 9) ⇒
-    shown (reply 1 0 (state 1 44 0 0f (beam (vec 2f 0f 0f) z 1f 1f) 2 7) (blanks 13 ++ refusal (whole 7) 2f 1f 1f ++ blanks 14))) ∷
-    -- 9: t would be infinite
+    shown 1 0 (state 1 44 0 0f between 2 7) (hit 1f (vec 2f 0f 0f) -z z 1f 1f ++ refusal (whole 7) 2f 1f 1f ++ blanks 14)) ∷
+    (on narrow (λ b. continueOf b (state 1 44 0 0f between 1 0) (blanks 40) 9) ⇒
+    shown 1 0 (state 1 44 0 0f between 2 7) (blanks 13 ++ refusal (whole 7) 2f 1f 1f ++ blanks 14)) ∷
+    -- 9: t is infinite
     (on (plane (whole (10 ^ 308)) 1f (whole 10)) (λ b. wholeOf b (ray (vec 0f 0f (neg (whole (10 ^ 308)))) z) 1f (stale 13)) ⇒
-    shown (reply 1 0 (state 0 0 0 0f (beam (vec 0f 0f (neg (whole (10 ^ 308)))) z 1f 0f) 1 9) (refusal (whole 9) 0f 0f 1f))) ∷
-    -- document 01's even asphere: a hit with the normal (√½, 0, -√½) after 2 steps, 7 after 2, 6 after 1
+    shown 1 0 (state 0 0 0 0f (beam (vec 0f 0f (neg (whole (10 ^ 308)))) z 1f 0f) 1 9) (refusal (whole 9) 0f 0f 1f)) ∷
+    -- document 01's even asphere: a hit after 2 steps, 7 after 2, 6 after 1
     (on (bowl (whole 5)) (λ b. wholeOf b (before .ray) 1f (stale 13)) ⇒
-    shown (reply 1 0 (state 1 52 0 0f (beam (vec 4f 0f 2f) z 1f (whole 3)) 2 1) (hit (whole 3) (vec 4f 0f 2f) (vec √½ 0f (neg √½)) z 1f 2f))) ∷
-    (on (bowl (whole 3)) (λ b. wholeOf b (before .ray) 1f (stale 13)) ⇒ shown (reply 1 0 (state 0 0 0 0f before 2 7) (refusal (whole 7) 4f (whole 3) 2f))) ∷
-    (on (bowl 2f) (λ b. wholeOf b (before .ray) 1f (stale 13)) ⇒ shown (reply 1 0 (state 0 0 0 0f before 1 6) (refusal (whole 6) 0f 0f 1f))) ∷
-    -- refused starts: +0.0 in the whole buffer, a state of the refusal and zeros, and the place of the record; in a file from its start, and 10 at 0 without a ray
-    (on (plane 0f 1f 1f ++ plane 0f 0f 1f) (λ b. startOf b (ray (vec nan 0f 0f) z) 1f (stale 27)) ⇒ shown (reply 4 44 (state 0 0 0 0f (beam zeros zeros 0f 0f) 0 4) (blanks 27))) ∷
-    (on (beamRecord ++ plane 0f 1f (neg 1f)) (λ b. startFileOf b (stale 13)) ⇒ shown (reply 3 60 (state 0 0 0 0f (beam zeros zeros 0f 0f) 0 3) (blanks 13))) ∷
-    (on planeRecord (λ b. startFileOf b (stale 13)) ⇒ shown (reply 10 0 (state 0 0 0 0f (beam zeros zeros 0f 0f) 0 10) (blanks 13))) ∷
-    -- the ray's 2 before the index's 4 before 11, also for a whole trace
-    (on lens (λ b. startOf b (ray (vec nan 0f 0f) z) 0f (stale 25)) ⇒ shown (reply 2 0 (state 0 0 0 0f (beam zeros zeros 0f 0f) 0 2) (blanks 25))) ∷
-    (on lens (λ b. wholeOf b (before .ray) 0f (stale 25)) ⇒ shown (reply 4 0 (state 0 0 0 0f (beam zeros zeros 0f 0f) 0 4) (blanks 25))) ∷
-    (on lens (λ b. startOf b (before .ray) 1f (stale 25)) ⇒ shown (reply 11 0 (state 0 0 0 0f (beam zeros zeros 0f 0f) 0 11) (blanks 25))) ∷
-    -- refused continuations: the recipe's refusal, then 11, then 12; state and buffer come back as given
-    (on (lens ++ 0 ∷ []) (λ b. continueOf b unfit (stale 25) 9) ⇒ shown (reply 10 104 unfit (stale 25))) ∷
-    (on lens (λ b. continueOf b unfit (stale 25) 9) ⇒ shown (reply 11 0 unfit (stale 25))) ∷
-    (on lens (λ b. continueOf b unfit (stale 26) 9) ⇒ shown (reply 12 0 unfit (stale 26))) ∷
-    -- 12, condition by condition, beside states that are accepted: the outcome, here 0 to 10 before the second surface
-    (answered lens (map (λ o. state 1 44 0 0f inside 1 o) (0 ∷ 1 ∷ 2 ∷ 3 ∷ 4 ∷ 5 ∷ 6 ∷ 7 ∷ 8 ∷ 9 ∷ 10 ∷ [])) ⇒ 1 ∷ 12 ∷ 1 ∷ 12 ∷ 1 ∷ 1 ∷ 1 ∷ 1 ∷ 1 ∷ 1 ∷ 12 ∷ []) ∷
+    shown 1 0 (state 1 52 0 0f (beam (vec 4f 0f 2f) z 1f (whole 3)) 2 1) (hit (whole 3) (vec 4f 0f 2f) (vec √½ 0f (neg √½)) z 1f 2f)) ∷
+    (on (bowl (whole 3)) (λ b. wholeOf b (before .ray) 1f (stale 13)) ⇒ shown 1 0 (state 0 0 0 0f before 2 7) (refusal (whole 7) 4f (whole 3) 2f)) ∷
+    (on (bowl 2f) (λ b. wholeOf b (before .ray) 1f (stale 13)) ⇒ shown 1 0 (state 0 0 0 0f before 1 6) (refusal (whole 6) 0f 0f 1f)) ∷
+    -- refused starts leave blanks and no state: a record's refusal, with its place, before the ray's; in a file the
+    -- place counts from the file's start, and without a ray's record it is 10 at 0
+    (on (plane 0f 1f 1f ++ plane 0f 0f 1f) (λ b. startOf b (ray (vec nan 0f 0f) z) 1f (stale 27)) ⇒ shown 4 44 (refused 4) (blanks 27)) ∷
+    (on (beamRecord ++ plane 0f 1f (neg 1f)) (λ b. startFileOf b (stale 14)) ⇒ shown 3 60 (refused 3) (blanks 14)) ∷
+    (on planeRecord (λ b. startFileOf b (stale 14)) ⇒ shown 10 0 (refused 10) (blanks 14)) ∷
+    -- then the ray's 2, the index's 4, and 11
+    (on lens (λ b. startOf b (ray (vec nan 0f 0f) z) 0f (stale 25)) ⇒ shown 2 0 (refused 2) (blanks 25)) ∷
+    (on lens (λ b. wholeOf b (before .ray) 0f (stale 25)) ⇒ shown 4 0 (refused 4) (blanks 25)) ∷
+    (on lens (λ b. startOf b (before .ray) 1f (stale 25)) ⇒ shown 11 0 (refused 11) (blanks 25)) ∷
+    -- refused continuations leave state and buffer as given: the recipe's refusal, then 11, then 12
+    (on (lens ++ 0 ∷ []) (λ b. continueOf b unfit (stale 25) 9) ⇒ shown 10 104 unfit (stale 25)) ∷
+    (on lens (λ b. continueOf b unfit (stale 25) 9) ⇒ shown 11 0 unfit (stale 25)) ∷
+    (on lens (λ b. continueOf b unfit (stale 26) 9) ⇒ shown 12 0 unfit (stale 26)) ∷
+    -- 12, a row for each condition, with states beside it that are accepted. The outcome, here 0 to 10 at the asphere
+    (answered lens (map (λ o. state 1 44 0 0f inside 1 o) (0 ∷ 1 ∷ 2 ∷ 3 ∷ 4 ∷ 5 ∷ 6 ∷ 7 ∷ 8 ∷ 9 ∷ 10 ∷ [])) ⇒
+    1 ∷ 12 ∷ 1 ∷ 12 ∷ 1 ∷ 1 ∷ 1 ∷ 1 ∷ 1 ∷ 1 ∷ 12 ∷ []) ∷
     -- under outcome 1 the number, which is the count of records, and the place, which is the recipe's end
-    (answered lens (state 2 104 0 0f behind 3 1 ∷ state 1 104 0 0f behind 3 1 ∷ state 2 44 0 0f behind 3 1 ∷ []) ⇒ 1 ∷ 12 ∷ 12 ∷ []) ∷
-    -- under another the place, which is the start of the record with that number; at the count there is none
-    (answered lens (state 0 0 0 0f before 0 0 ∷ state 0 44 0 0f before 0 0 ∷ state 1 0 0 0f inside 1 0 ∷ state 2 104 0 0f behind 3 0 ∷ state 2 0 0 0f behind 3 0 ∷ []) ⇒ 1 ∷ 12 ∷ 12 ∷ 12 ∷ 12 ∷ []) ∷
-    -- the pass count against the limits: conic 1, even asphere 25, biconic and toroid 35
-    (answered lens (state 0 0 1 0f before 0 0 ∷ state 1 44 24 0f inside 1 0 ∷ state 1 44 25 0f inside 1 0 ∷ []) ⇒ 12 ∷ 1 ∷ 12 ∷ []) ∷
-    (answered (surface 3 (0f ∷ 1f ∷ 0f ∷ 0f ∷ 0f ∷ 0f ∷ 1f ∷ []) ++ surface 4 (0f ∷ 1f ∷ 1f ∷ 0f ∷ 0f ∷ 1f ∷ []))
-    (state 0 0 34 0f before 0 0 ∷ state 0 0 35 0f before 0 0 ∷ state 1 60 34 0f inside 1 0 ∷ state 1 60 35 0f inside 1 0 ∷ []) ⇒ 1 ∷ 12 ∷ 1 ∷ 12 ∷ []) ∷
-    -- the pass count once ended, and all steps, of which the limits' sum is 26
-    (answered lens (state 1 44 1 0f inside 2 0 ∷ state 1 44 1 0f inside 2 6 ∷ state 2 104 1 0f behind 3 1 ∷ []) ⇒ 1 ∷ 12 ∷ 12 ∷ []) ∷
+    (answered lens (ended ∷ state 1 104 0 0f behind 3 1 ∷ state 2 44 0 0f behind 3 1 ∷ []) ⇒ 1 ∷ 12 ∷ 12 ∷ []) ∷
+    -- under another the place, which is the start of the record with that number; at the count there is no record
+    (answered lens (started ∷ state 0 44 0 0f before 0 0 ∷ state 1 0 0 0f inside 1 0 ∷ state 2 104 0 0f behind 3 0 ∷ []) ⇒ 1 ∷ 12 ∷ 12 ∷ 12 ∷ []) ∷
+    -- the pass count, which is below the limit: 1 for a conic, 25 for an even asphere, 35 for a biconic or toroid
+    (answered lens (state 0 0 1 0f before 1 0 ∷ state 1 44 24 0f inside 25 0 ∷ state 1 44 25 0f inside 25 0 ∷ []) ⇒ 12 ∷ 1 ∷ 12 ∷ []) ∷
+    (answered
+    (surface 3 (0f ∷ 1f ∷ 0f ∷ 0f ∷ 0f ∷ 0f ∷ 1f ∷ []) ++ surface 4 (0f ∷ 1f ∷ 1f ∷ 0f ∷ 0f ∷ 1f ∷ []))
+    (state 0 0 34 0f before 34 0 ∷ state 0 0 35 0f before 35 0 ∷ state 1 60 34 0f inside 35 0 ∷ state 1 60 35 0f inside 36 0 ∷ []) ⇒ 1 ∷ 12 ∷ 1 ∷ 12 ∷ []) ∷
+    -- and once ended is 0
+    (answered lens (paused ∷ state 1 44 1 0f inside 2 6 ∷ state 2 104 1 0f behind 3 1 ∷ []) ⇒ 1 ∷ 12 ∷ 12 ∷ []) ∷
+    -- all steps, which are at most the sum of all limits, 26
     (answered lens (state 1 44 0 0f inside 26 0 ∷ state 1 44 0 0f inside 27 0 ∷ []) ⇒ 1 ∷ 12 ∷ []) ∷
-    -- ray and path that are not finite; an index that is not finite, 0, or negative
-    (answered lens
-    (map
+    -- ray and path, which are finite
+    (answered lens (map
     (λ b. state 1 44 0 0f b 1 0)
-    (inside ∷ beam (vec nan 0f 0f) z 2f 1f ∷ beam (vec 4f 0f 0f) (vec 0f 0f (inf false)) 2f 1f ∷ beam (vec 4f 0f 0f) z 2f (inf true) ∷
-    beam (vec 4f 0f 0f) z (inf false) 1f ∷ beam (vec 4f 0f 0f) z nan 1f ∷ beam (vec 4f 0f 0f) z 0f 1f ∷ beam (vec 4f 0f 0f) z (neg 1f) 1f ∷ []))
-    ⇒ 1 ∷ 12 ∷ 12 ∷ 12 ∷ 12 ∷ 12 ∷ 12 ∷ 12 ∷ []) ∷ []
+    (inside ∷ beam (vec nan 0f 0f) z 2f 1f ∷ beam zeros (vec 0f 0f (inf false)) 2f 1f ∷ beam zeros z 2f (inf true) ∷ [])) ⇒ 1 ∷ 12 ∷ 12 ∷ 12 ∷ []) ∷
+    -- the index, which is finite and positive
+    (answered lens (map (λ n. state 1 44 0 0f (beam zeros z n 1f) 1 0) (1f ∷ inf false ∷ nan ∷ 0f ∷ neg 1f ∷ [])) ⇒ 1 ∷ 12 ∷ 12 ∷ 12 ∷ 12 ∷ []) ∷ []
 
 pub each-case : agree cases ≡ true
-unfolding cases lens folded narrow beamShown stateShown shown on answered bits _over_ bytes patterns beamRecord planeRecord decimal magnitude negative larger clamped infinite root neg round add sub mul div lt le eq isNan ofBits toBits ofInt dotOf overOf distance pointAt allFinite rayFinite everyFinite turnedIf negatedIf mirrored reflected bent refracted landedWithin planeCrossing conicCrossing normalAt arrivedAt movedBy passAt vertexPlane passesFrom newtonEnd passStart nextPass limitedPass powerSumFrom slopeSumFrom baseRoot baseSag baseSlope evenDepth evenSlopeFrom evenSlope radialSlopes evenSlopes lengthOf facingOf evenFacing evenNormal passRule surfaceEnd limitOf surfaceNormal onwardFrom turnRule u16At u64At numberAt numbersAt slotAt lengthFits shapedAt semiSlot kindOf coefficientCount coefficientsAt opticAt negativeSemi recordAt scan placeOf notes isSource vectorAt sourceOf boundaryOf farther legFinite legOf beamAfter hitRow refusalRow rowOf unbroken total rows padded pausedAt stateAfter surfaceLeft stepOn move advance outcomeKnown placeFits passesFit beamGood fitsOf refusedAnswer admission startAt startOf startFileOf continueOf wholeOf
+unfolding cases lens folded narrow on answered bits _over_ bytes patterns beamRecord planeRecord decimal magnitude negative larger clamped infinite root neg round add sub mul div lt le eq isNan ofBits toBits ofInt dotOf overOf distance pointAt allFinite rayFinite everyFinite turnedIf negatedIf mirrored reflected bent refracted landedWithin planeCrossing conicCrossing normalAt arrivedAt movedBy passAt vertexPlane passesFrom newtonEnd passStart nextPass limitedPass powerSumFrom slopeSumFrom baseRoot baseSag baseSlope evenDepth evenSlopeFrom evenSlope radialSlopes evenSlopes lengthOf facingOf evenFacing evenNormal passRule surfaceEnd limitOf surfaceNormal onwardFrom turnRule u16At u64At numberAt numbersAt slotAt lengthFits shapedAt semiSlot kindOf coefficientCount coefficientsAt opticAt negativeSemi recordAt scan placeOf notes isSource vectorAt sourceOf boundaryOf farther legFinite legOf beamAfter hitRow refusalRow rowOf unbroken total rows padded pausedAt stateAfter surfaceLeft stepOn move advance outcomeKnown placeFits passesFit beamGood fitsOf refusedAnswer admission startAt startOf startFileOf continueOf wholeOf
 each-case = refl

@@ -29,6 +29,8 @@ use Rattle.trace.proofs.Starts.{Admitted}
 use Rattle.trace.proofs.Demand3.{sound, call, admitted-start, started}
 use Rattle.station.specs.Lent.{passesIn, outcomeIn, stateIn, countsOf, numbersOf, Left, left, told, toldIfAccepted, continued}
 use Rattle.station.specs.Carried.{scans, Beyond, unfit, Carried}
+-- named so that the worked cases are checked first
+use Rattle.station.proofs.Cases.{each-case}
 
 at-most-9 : (n : ℕ) → stops n ≡ true → n ≤ 9
 at-most-9 n h = leb-true n 9 (each (λ (k : ℕ). leb k 9) outcomes n refl (stops-listed n h))

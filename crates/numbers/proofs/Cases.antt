@@ -1,2 +1,2 @@
--- The known values come before all laws, so that a wrong rule is refused by a case and not by a law. Assumes nothing.
+-- Imported here, the known values are checked before most laws, so that a wrong rule is refused by a case first. Assumes nothing.
 pub use Rattle.numbers.specs.Known.{each-row}

@@ -15,8 +15,8 @@ LIMITS = {kind: shape.steps for kind, shape in SHAPES.items()}
 
 def sample(name):
     """A ray and a lens, in air."""
-    ray, surfaces = read((TOP / "samples" / f"{name}.txt").read_text()).prescription
-    return ray[:6], surfaces
+    lens = read((TOP / "samples" / f"{name}.txt").read_text()).prescription
+    return lens.ray[:6], lens.surfaces
 
 
 SAMPLES = {name: sample(name) for name in ("doublet", "phone", "mirrors", "toroid")}

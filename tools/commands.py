@@ -3,6 +3,7 @@ import argparse
 import os
 import sys
 
+import fitting
 import listing
 import prescription
 import records
@@ -91,10 +92,11 @@ def located_text(data, name):
 
 
 def parsed_bytes(data, name):
-    try:
-        return records.parsed(data)
-    except records.Malformed as wrong:
-        raise Refused(f"{name}: byte {wrong.place}: {wrong.reason}") from None
+    """All of them, or none where a record is malformed."""
+    parsed = records.parsed(data)
+    if parsed.malformed is not None:
+        raise Refused(f"{name}: {parsed.malformed}")
+    return parsed
 
 
 def is_text(data):
@@ -108,7 +110,7 @@ def prescription_of(data, name):
 
 
 def listing_of(path, traced=None, recipe=None):
-    """What `tracelist` printed, held to what was traced, if that is given with its name: a prescription, or how bytes are malformed."""
+    """What `tracelist` printed, held to the prescription that was traced, if that is given with its name."""
     name = name_of(path)
     data = contents(path)
     try:
@@ -117,7 +119,7 @@ def listing_of(path, traced=None, recipe=None):
         raise Refused(f"{name}:{wrong.line}: {wrong.reason}") from None
     try:
         if traced is not None:
-            listing.hold(read, traced)
+            fitting.hold(read, traced)
     except listing.BadListing as unlike:
-        raise Refused(f"{name}:{unlike.line}: {unlike.reason}: this is no listing of {recipe}") from None
+        raise Refused(f"{name}:{unlike.line}: {unlike.reason}: this is no listing of {recipe} as it stands") from None
     return read

@@ -4,8 +4,7 @@ import re
 from typing import List, NamedTuple, Optional, Tuple
 
 from numerals import counted, numeral, of_pattern, pattern
-from records import SHAPES, Malformed, faults, file_places
-from table import DONE, ENDS, HIT, MALFORMED, NOT_ENDED, START_REFUSALS, VIGNETTED, told
+from table import DONE, ENDS, HIT, NOT_ENDED, START_REFUSALS, VIGNETTED
 
 COUNT = re.compile(r"\d{1,20}", re.ASCII)
 SLOTS = 11
@@ -162,48 +161,3 @@ def read_end(words, records):
     if pattern(listing.path) != pattern(path):
         raise ValueError(f"the path is {numeral(listing.path)}, and the records add up to {numeral(path)}")
     return listing
-
-
-def hold(listing, traced):
-    """Refuses a listing that cannot be of what was traced: a prescription, or bytes that are malformed."""
-    due = start_refusal(traced)
-    given = (listing.outcome, listing.place) if listing.is_start_refused() else None
-    if given != due:
-        raise BadListing(1, f"the listing has {said_of(given)}, and the recipe {said_of(due)}")
-    if due is None:
-        hold_trace(listing, traced.surfaces)
-
-
-def said_of(start_refused):
-    return "a trace" if start_refused is None else f"a start refused with {told(start_refused[0])} at byte {start_refused[1]}"
-
-
-def start_refusal(traced):
-    """What `tracelist` answers instead of a trace: number and place; or None."""
-    if isinstance(traced, Malformed):
-        return MALFORMED, traced.place
-    if traced.ray is None:
-        return MALFORMED, 0
-    found = faults(traced)
-    if not found:
-        return None
-    first = found[0]
-    return first.number, 0 if first.surface is None else file_places(traced)[first.surface]
-
-
-def hold_trace(listing, surfaces):
-    last = len(listing.records)
-    for record in listing.records:
-        if record.number >= len(surfaces):
-            raise BadListing(record.line, f"surface {record.number}, and the recipe has {len(surfaces)}")
-        hold_record(record, surfaces[record.number])
-    if listing.outcome == DONE and last < len(surfaces):
-        raise BadListing(last + 1, f"done after {last} of the recipe's {len(surfaces)} surfaces")
-
-
-def hold_record(record, surface):
-    most, semi = SHAPES[surface.kind].steps, surface.named()["semi"]
-    if record.steps > most:
-        raise BadListing(record.line, f"{record.steps} steps, and surface {record.number}, a {surface.kind}, takes at most {most}")
-    if record.status == VIGNETTED and record.limit != semi:
-        raise BadListing(record.line, f"limit {numeral(record.limit)}, and surface {record.number} has the semi-diameter {numeral(semi)}")

@@ -2,7 +2,7 @@
 import math
 
 from labels import ABOVE, Labels, around
-from records import file_places, surface_fault
+from records import file_places, slip, surface_fault
 from sags import crossing, profile, way_to
 from svg import arrowhead, circle, cross, document, hatching, path, stroke, text
 from table import NOT_ENDED, VIGNETTED, told
@@ -179,13 +179,23 @@ class Picture:
     def svg(self):
         colour = QUIET if self.beam.number is None else REFUSED
         self.parts = [text(self.title, (MARGIN, 30), INK, 17, bold=True), text(self.outcome(), (MARGIN, 50), colour, 13)]
-        bottom = 50.0
+        bottom = self.draw_slips(50.0)
         for across, caption in SECTIONS:
             self.parts.append(text(caption, (MARGIN, bottom + 34), QUIET))
             bottom = self.draw_section(View(across, self.window, bottom + 46)) + 14
         self.draw_scale(bottom + 18)
         bottom = self.draw_legend(bottom + 48)
         return document(self.parts, WIDTH, bottom + 16, self.title, self.outcome())
+
+    def slips(self):
+        """Why surfaces are not drawn that a start takes."""
+        return [f"surface {i} is not drawn: {why}" for i, why in enumerate(map(slip, self.surfaces)) if why]
+
+    def draw_slips(self, y):
+        for words in self.slips():
+            y += 18
+            self.parts.append(text(words, (MARGIN, y), REFUSED))
+        return y
 
     def outcome(self):
         beam, listing = self.beam, self.listing
@@ -369,7 +379,7 @@ class Picture:
 def profile_of(surface, across):
     """None of a surface that has no shape; an index that no trace takes leaves it its shape."""
     fault = surface_fault(surface)
-    return [] if fault and fault[0] != 4 else profile(surface, across)
+    return [] if fault and fault[0] != 4 or slip(surface) else profile(surface, across)
 
 
 def middle(line):

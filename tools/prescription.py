@@ -18,8 +18,8 @@ the text:
   Lengths are in mm. `vertex` is the vertex's z, `index` the index behind the surface (a mirror's is checked and not used), `semi` the
   semi-diameter, `c` a curvature in 1/mm, `k` a conic constant, `rx` the radius of a toroid's circle. An even asphere may have up to 8
   coefficients: a1 of r^2, a2 of r^4 and so on to a8 of r^16, none skipped. In place of c, cx or cy there may be radius, radiusx or
-  radiusy: the curvature is 1/radius, rounded once, and inf is a plane's. `mirror` stands before a mirror's kind. The ray, if there is
-  one, comes first: origin, direction and the index that it starts in.
+  radiusy: the curvature is 1/radius, rounded once, and inf is a plane's. A cylinder is a biconic with radiusx=inf, or radiusy=inf.
+  `mirror` stands before a mirror's kind. The ray, if there is one, comes first: origin, direction and the index that it starts in.
 
   A number is a decimal (6, -0, 1.5e-3), a hexadecimal float with its exponent (0x1.8p-3), inf, -inf, or nan: and the 16 hex digits of
   a NaN's pattern. A decimal stands for the nearest binary64 number."""

@@ -45,19 +45,21 @@ class Surface(NamedTuple):
         return f"{self.kind} mirror" if self.mirror else self.kind
 
 
-class Prescription(NamedTuple):
-    """The ray has origin, direction and starting index. A recipe for the library has none."""
-
-    ray: Optional[List[float]]
-    surfaces: List[Surface]
-
-
 class Malformed(Exception):
     """Bytes that are no recipe: where the record begins that is wrong, and why."""
 
     def __init__(self, place, reason):
         super().__init__(f"byte {place}: {reason}")
         self.place, self.reason = place, reason
+
+
+class Prescription(NamedTuple):
+    """The ray has origin, direction and starting index. A recipe for the library has none. Where bytes are malformed behind the surfaces,
+    it is said how."""
+
+    ray: Optional[List[float]]
+    surfaces: List[Surface]
+    malformed: Optional[Malformed] = None
 
 
 class Fault(NamedTuple):
@@ -96,14 +98,17 @@ def file_places(prescription):
 
 
 def parsed(data):
-    """The prescription that bytes tell. A first record of kind 0 is the ray's."""
-    ray, at = ray_at_start(data)
+    """The prescription that bytes tell, up to a record that is malformed. A first record of kind 0 is the ray's."""
+    try:
+        ray, at = ray_at_start(data)
+    except Malformed as wrong:
+        return Prescription(None, [], wrong)
     surfaces = []
     while at < len(data):
         try:
             surface, at = surface_at(data, at, len(surfaces))
         except Malformed as wrong:
-            raise Malformed(wrong.place, f"surface {len(surfaces)}: {wrong.reason}") from None
+            return Prescription(ray, surfaces, Malformed(wrong.place, f"surface {len(surfaces)}: {wrong.reason}"))
         surfaces.append(surface)
     return Prescription(ray, surfaces)
 
@@ -167,8 +172,17 @@ def ray_fault(ray):
 
 
 def faults(prescription):
-    """All that a start refuses, in the order of its checks; it answers the first."""
+    """All that a start refuses, in the order of its checks, record by record and then the ray; it answers the first."""
     found = [Fault(i, *fault) for i, fault in enumerate(map(surface_fault, prescription.surfaces)) if fault]
+    if prescription.malformed is not None:
+        found.append(Fault(len(prescription.surfaces), 10, prescription.malformed.reason))
     if prescription.ray is not None and ray_fault(prescription.ray):
         found.append(Fault(None, *ray_fault(prescription.ray)))
     return found
+
+
+def slip(surface):
+    """What a start takes, though it is hardly meant; or None."""
+    if surface.kind == "toroid" and surface.named()["rx"] == 0:
+        return "rx is 0, a circle without a radius, which a beam hardly meets: a cylinder is a biconic with radiusx=inf"
+    return None

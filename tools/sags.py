@@ -1,43 +1,15 @@
-"""The sags of surfaces, for drawing: near enough for the eye, and not the trace's to the bit."""
+"""The shapes of surfaces, for drawing."""
 import math
 
-FLAT = 1e-15
+import optics
+
 PIECES = 40
 
 
 def sag(surface, x, y):
     """How far behind the vertex the surface lies at x and y; None where it has no such point."""
-    try:
-        z = SAGS[surface.kind](surface.named(), surface.coefficients(), x, y)
-    except (ValueError, ZeroDivisionError, OverflowError):
-        # the root of a negative number, or numbers too large
-        return None
-    return z if math.isfinite(z) else None
-
-
-def curve(c, k, r2):
-    return c * r2 / (1 + math.sqrt(1 - (1 + k) * c * c * r2)) if abs(c) >= FLAT else 0.0
-
-
-def of_revolution(own, coefficients, x, y):
-    r2 = x * x + y * y
-    return curve(own["c"], own["k"], r2) + sum(a * r2**i for i, a in enumerate(coefficients, 1))
-
-
-def of_biconic(own, _, x, y):
-    cx, cy = own["cx"], own["cy"]
-    root = math.sqrt(1 - (1 + own["kx"]) * cx * cx * x * x - (1 + own["ky"]) * cy * cy * y * y)
-    return (cx * x * x + cy * y * y) / (1 + root)
-
-
-def of_toroid(own, _, x, y):
-    """A circle through the base curve in the y-z plane."""
-    rx = own["rx"]
-    to_circle = rx - curve(own["cy"], own["ky"], y * y)
-    return rx - math.copysign(math.sqrt(to_circle * to_circle - x * x), rx)
-
-
-SAGS = {"conic": of_revolution, "even": of_revolution, "biconic": of_biconic, "toroid": of_toroid}
+    z = optics.sag(surface, x, y)
+    return z if z is not None and math.isfinite(z) else None
 
 
 def section(surface, across, height):
@@ -78,13 +50,14 @@ def crossing(front, back, across):
 
 
 def halved(inside, outside, is_inside):
-    """The last number from inside on that is so, near enough."""
-    for _ in range(40):
-        middle = (inside + outside) / 2
+    """The last number from inside on that is so."""
+    middle = (inside + outside) / 2
+    while middle not in (inside, outside):
         if is_inside(middle):
             inside = middle
         else:
             outside = middle
+        middle = (inside + outside) / 2
     return inside
 
 

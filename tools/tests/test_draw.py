@@ -120,8 +120,16 @@ class Draw(unittest.TestCase):
         self.assertIsNone(drawn(PLANE.replace("semi=10", "semi=1e300")))
         self.assertIsNone(drawn(PLANE.replace("semi=10", "semi=inf")))
         self.assertIsNotNone(drawn(PLANE.replace("semi=10", "semi=0")))
-        self.assertIsNotNone(drawn("toroid vertex=0 index=1 rx=0 cy=0 ky=0 semi=10\n"))
         self.assertIsNotNone(drawn(RAY.replace("dz=1", "dz=0") + PLANE))
+
+    def test_a_toroid_without_a_radius_is_not_drawn(self):
+        toroid = "toroid vertex=3 index=1 rx=0 cy=0.05 ky=0 semi=10\n"
+        self.assertIsNone(drawn(toroid))
+        root = drawn(PLANE + toroid)
+        self.assertEqual(texts(root)[2], "surface 1 is not drawn: rx is 0, a circle without a radius, which a beam hardly meets: "
+                                         "a cylinder is a biconic with radiusx=inf")
+        self.assertEqual((texts(root).count("0"), texts(root).count("1")), (2, 0))
+        self.assertEqual(texts(drawn(PLANE))[2], "Section x = 0: y upwards, z to the right")
 
     def test_titles(self):
         for title in ("a < b & c", "\0\x1b\udc80", "π"):
@@ -154,6 +162,8 @@ class Tool(Refusing, unittest.TestCase):
         self.assert_refused(ran("draw", "-", given=b"\xff\xff"), "standard input:1: not text in UTF-8")
         self.assert_refused(ran("draw", SAMPLES / "doublet", "-", given=b"end\n"), "standard input:1: 1 word,")
         self.assert_refused(ran("draw", SAMPLES / "toroid", LISTINGS / "doublet"), "this is no listing of")
+        toroid = b"toroid vertex=3 index=1 rx=0 cy=0.05 ky=0 semi=10"
+        self.assert_refused(ran("draw", "-", given=toroid), "nothing to draw: surface 0 is not drawn: rx is 0")
 
     def test_usage(self):
         self.assertEqual(ran("draw", "-", "-").status, 2)

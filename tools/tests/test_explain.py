@@ -12,6 +12,9 @@ ZERO = pattern(0.0)
 VIGNETTED = " ".join(["0 7 1", pattern(12.0), pattern(10.0), *[ZERO] * 9]) + f"\nend 7 1 {ZERO}\n"
 RAY = "ray x=12 y=0 z=-5 dx=0 dy=0 dz=1 index=1\n"
 PLANE = "conic vertex=0 index=2 c=0 k=0 semi=10\n"
+DARK = PLANE.replace("index=2", "index=0")
+ALL_FIT = "Each record fits the lens and the ray as they stand now.\n"
+NO_RECIPE = "No recipe is given: whether this is of the lens and the ray as they stand now is not known.\n"
 
 
 def refused_with(number):
@@ -41,7 +44,7 @@ class Explain(Refusing, unittest.TestCase):
         first = "Surface 0 (conic): hit at x 6, y 3, z 0.35959609 mm, 20.3595961 mm after the start, on its front face; 1 step.\n"
         self.assertTrue(text.startswith(first))
         self.assertIn("      1   1 hit      1  3.16462186      5.89651048       2.94825524  3.52210204  23.5242179\n", text)
-        self.assertTrue(text.endswith("\nDone: all 4 surfaces are hit; 4 steps, path 123.822188 mm.\n"))
+        self.assertTrue(text.endswith(f"\nDone: all 4 surfaces are hit; 4 steps, path 123.822188 mm.\n\n{ALL_FIT}"))
 
     def test_samples_without_their_recipes(self):
         for name in NAMES:
@@ -59,7 +62,37 @@ class Explain(Refusing, unittest.TestCase):
         self.assertIn(f"Surface 2 (conic): refused with 6, missed, after 1 step: {why}.\n", text)
         self.assertIn("      2  6 missed      1           -           -           -           -           -\n", text)
         self.assertIn("Ended by the refusal at surface 2, with 6 (missed); 3 steps, path 23.5242179 mm up to the last hit.\n", text)
-        self.assertTrue(text.endswith("The record of surface 3 is blank: nothing of it was measured.\n"))
+        self.assertTrue(text.endswith(f"The record of surface 3 is blank: nothing of it was measured.\n\n{ALL_FIT}"))
+
+    def test_a_lens_or_ray_that_was_changed(self):
+        """The listing is of the lens before, and nothing of it is told."""
+        for name, old, new, surface in (
+            ("doublet", "vertex=4 ", "vertex=4.004 ", "2: surface 1: t is"),
+            ("doublet", " x=6 ", " x=6.006 ", "1: surface 0: t is"),
+            ("doublet", "index=1.6727", "index=1.6726", "2: surface 1: the new direction is not what refraction gives"),
+            ("phone", "a3=0.022", "a3=0.0221", "2: surface 1: the point lies"),
+            ("mirrors", "kx=0", "kx=0.001", "4: surface 3: the point lies"),
+            ("lost", "vertex=-6.5", "vertex=6.5", "3: surface 2: the beam meets it within its semi-diameter"),
+        ):
+            changed = self.recipe((SAMPLES / f"{name}.txt").read_text().replace(old, new))
+            for done in (ran("explain", LISTINGS / name, "--recipe", changed), ran("draw", changed, LISTINGS / name)):
+                self.assert_refused(done, f"{LISTINGS / name}:{surface}")
+                self.assertIn(f"this is no listing of {changed} as it stands", done.err)
+
+    def test_what_is_known_of_a_refusal(self):
+        """Of a search nothing but a limit; of a conic all."""
+        even = "even vertex=0 index=2 c=0 k=0 semi=10\n"
+        for status, said in ((7, "its limit fits, and nothing else is known"), (6, "nothing is known")):
+            listing = VIGNETTED if status == 7 else refused_with(status)
+            text = told(listing, "--recipe", self.recipe(RAY + even))
+            self.assertTrue(text.endswith(f"Of the refusal at surface 0 {said}: after a change of lens or ray, trace again.\n"), text)
+        self.assertTrue(told(VIGNETTED, "--recipe", self.recipe(RAY + PLANE)).endswith(ALL_FIT))
+        self.assertTrue(told(VIGNETTED).endswith(NO_RECIPE))
+
+    def test_a_toroid_without_a_radius(self):
+        toroid = "toroid vertex=0 index=2 rx=0 cy=0 ky=0 semi=20\n"
+        text = told(refused_with(6), "--recipe", self.recipe(RAY + toroid))
+        self.assertIn("a cylinder is a biconic with radiusx=inf).\n", text)
 
     def test_vignetted(self):
         why = "refused with 7, vignetted, after 1 step: the beam meets it 12 mm from the axis, and its semi-diameter is 10 mm.\n"
@@ -79,10 +112,11 @@ class Explain(Refusing, unittest.TestCase):
     def test_not_ended(self):
         text = told(f"end 0 3 {ZERO}\n")
         self.assertEqual(text, "Not ended: 0 surfaces hit so far; 3 steps, path 0 mm.\n"
-                               "From surface 0 on the records are blank: nothing of them is measured yet.\n")
+                               "From surface 0 on the records are blank: nothing of them is measured yet.\n"
+                               f"\n{NO_RECIPE}")
 
     def test_no_surfaces(self):
-        self.assertEqual(told(f"end 1 0 {ZERO}\n"), "Done: the recipe has no surface; 0 steps, path 0 mm.\n")
+        self.assertEqual(told(f"end 1 0 {ZERO}\n"), f"Done: the recipe has no surface; 0 steps, path 0 mm.\n\n{NO_RECIPE}")
 
     def test_a_direction_of_another_length(self):
         text = told(VIGNETTED, "--recipe", self.recipe(RAY.replace("dz=1", "dz=2") + PLANE))
@@ -98,6 +132,9 @@ class Explain(Refusing, unittest.TestCase):
             ("refused 4 0\n", RAY.replace("index=1", "index=-1"), "The ray: the index is not above 0.\n"),
             ("refused 10 0\n", PLANE, "The recipe has no ray.\n"),
             ("refused 10 60\n", file(read(RAY + PLANE).prescription)[:-1], "Surface 0: cut short: 43 of the record's 44 bytes.\n"),
+            ("refused 4 60\n", file(read(RAY + DARK + PLANE).prescription)[:-1], "Surface 0 (conic): the index is not above 0.\n"),
+            ("refused 10 0\n", b"\x3a\0\0\0", "Cut short: 4 of the record's 60 bytes.\n"),
+            ("refused 10 0\n", file(read(PLANE + PLANE).prescription)[:-1], "The recipe has no ray.\n"),
         ):
             text = told(listing, "--recipe", self.recipe(recipe))
             self.assertIn(said, text)
@@ -109,7 +146,7 @@ class Explain(Refusing, unittest.TestCase):
         self.assert_refused(ran("explain", given=b"\xff\xfe\0"), "standard input:1: not text in UTF-8")
         self.assert_refused(ran("explain", SAMPLES), "Is a directory")
         other = ran("explain", LISTINGS / "doublet", "--recipe", SAMPLES / "toroid")
-        self.assert_refused(other, f"{LISTINGS / 'doublet'}:5: done after 4 of the recipe's 5 surfaces: this is no listing of")
+        self.assert_refused(other, f"{LISTINGS / 'doublet'}:1: surface 0: t is 20.359596090424287, and the beam meets it at")
         self.assert_refused(ran("explain", "--recipe", self.recipe("cone"), given=b"refused 3 60\n"), "recipe:1: 'cone' is no kind")
         self.assert_refused(ran("explain", "--recipe", self.recipe(b"\0"), given=VIGNETTED.encode()), "this is no listing of")
         self.assertEqual(ran("explain", "--recipe", "-").status, 2)

@@ -1,32 +1,22 @@
 import unittest
 
-from trying import LISTINGS, NAMES, SAMPLES, Refusing
-from listing import BadListing, hold, read
+from trying import Refusing
+from listing import BadListing, read
 from numerals import pattern
-from prescription import read as read_text
-from records import Malformed, parsed
 
 ONE, ZERO = pattern(1.0), pattern(0.0)
 HIT = " ".join(["0 1 1", pattern(5.0), ZERO, ZERO, ZERO, ZERO, ZERO, pattern(-1.0), ZERO, ZERO, ONE, ONE])
 MISSED = " ".join(["1 6 3", *[ZERO] * 11])
 VIGNETTED = " ".join(["1 7 1", pattern(12.0), pattern(10.0), *[ZERO] * 9])
 END = f"end 1 1 {pattern(5.0)}"
-PLANE = "conic vertex=0 index=2 c=0 k=0 semi=10\n"
-RAY = "ray x=0 y=0 z=-5 dx=0 dy=0 dz=1 index=1\n"
 
 
-def refusal(text, held=None):
+def refusal(text):
     try:
-        listing = read(text)
-        if held is not None:
-            hold(listing, held)
+        read(text)
     except BadListing as wrong:
         return wrong.line, wrong.reason
     return None
-
-
-def prescription(text):
-    return read_text(text).prescription
 
 
 class Read(Refusing, unittest.TestCase):
@@ -84,37 +74,6 @@ class Read(Refusing, unittest.TestCase):
 
     def test_a_trace_that_goes_on(self):
         self.assertEqual(read(f"{HIT}\nend 0 3 {pattern(5.0)}").steps, 3)
-
-
-class Held(Refusing, unittest.TestCase):
-    def test_samples(self):
-        for name in NAMES:
-            hold(read((LISTINGS / name).read_text()), parsed((SAMPLES / name).read_bytes()))
-        hold(read((LISTINGS / "lost").read_text()), prescription((SAMPLES / "lost.txt").read_text()))
-
-    def test_listings_of_other_recipes(self):
-        even, small = "even vertex=1 index=1 c=0 k=0 semi=9\n", "conic vertex=1 index=1 c=0 k=0 semi=9\n"
-        missed, vignetted = f"{HIT}\n{MISSED}\nend 6 4 {pattern(5.0)}", f"{HIT}\n{VIGNETTED}\nend 7 2 {pattern(5.0)}"
-        for text, recipe, line, reason in (
-            (f"{HIT}\n{END}", PLANE, 1, "the listing has a trace, and the recipe a start refused with 10 (malformed recipe) at byte 0"),
-            (f"{HIT}\n{END}", RAY, 1, "surface 0, and the recipe has 0"),
-            (f"{HIT}\n{END}", RAY + PLANE * 2, 2, "done after 1 of the recipe's 2 surfaces"),
-            (f"{HIT}\n{END}", RAY + PLANE.replace("index=2", "index=0"), 1, "and the recipe a start refused with 4 (singular) at byte 60"),
-            (missed, RAY + PLANE + small, 2, "3 steps, and surface 1, a conic, takes at most 1"),
-            (vignetted, RAY + PLANE + small, 2, "limit 10, and surface 1 has the semi-diameter 9"),
-            ("refused 3 60", RAY + PLANE, 1, "at byte 60, and the recipe a trace"),
-            ("refused 3 60", RAY + PLANE + PLANE.replace("semi=", "semi=-"), 1, "(negative semi-diameter of a conic) at byte 104"),
-            ("refused 10 60", PLANE, 1, "the recipe a start refused with 10 (malformed recipe) at byte 0"),
-        ):
-            self.assert_told(refusal(text, prescription(recipe)), line, reason)
-        self.assertIsNone(refusal(missed, prescription(RAY + PLANE + even)))
-        self.assertIsNone(refusal("refused 10 0", prescription(PLANE)))
-        self.assertIsNone(refusal("refused 2 0", prescription(RAY.replace("x=0", "x=inf") + PLANE)))
-
-    def test_malformed(self):
-        hold(read("refused 10 60"), Malformed(60, "cut"))
-        with self.assertRaises(BadListing):
-            hold(read("refused 10 0"), Malformed(60, "cut"))
 
 
 if __name__ == "__main__":

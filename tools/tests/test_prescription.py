@@ -5,7 +5,7 @@ import unittest
 import trying
 from numerals import number, numeral, of_pattern, pattern
 from prescription import BadText, read, written
-from records import Malformed, Prescription, Surface, bytes_of, faults, file, file_places, parsed, record
+from records import Prescription, Surface, bytes_of, faults, file, file_places, parsed, record, slip
 
 PLANE = "conic vertex=0 index=1.5 c=0 k=0 semi=10"
 RAY = "ray x=0 y=0 z=-5 dx=0 dy=0 dz=1 index=1"
@@ -138,11 +138,10 @@ class Bytes(unittest.TestCase):
             (b"\x2b\0\1\0" + b"\0" * 41, 0, "length 43"),
             (plane * 513, 44 * 512, "surface 512: a recipe has at most 512"),
         ):
-            with self.assertRaises(Malformed) as wrong:
-                parsed(data)
-            self.assertEqual(wrong.exception.place, place)
-            self.assertIn(reason, wrong.exception.reason)
-        self.assertEqual(len(parsed(plane * 512).surfaces), 512)
+            wrong = parsed(data).malformed
+            self.assertEqual(wrong.place, place)
+            self.assertIn(reason, wrong.reason)
+        self.assertEqual((len(parsed(plane * 512).surfaces), parsed(plane * 512).malformed), (512, None))
 
     def test_faults_in_the_order_of_the_checks(self):
         bad = "\n".join((
@@ -153,6 +152,14 @@ class Bytes(unittest.TestCase):
             "conic vertex=0 index=-0 c=0 k=0 semi=-0",
         ))
         self.assertEqual([fault[:2] for fault in faults(read(bad).prescription)], [(0, 3), (1, 2), (2, 2), (3, 4), (None, 2)])
+        cut = parsed(file(read(bad).prescription) + b"\0")
+        self.assertEqual([fault[:2] for fault in faults(cut)][3:], [(3, 4), (4, 10), (None, 2)])
+
+    def test_what_is_hardly_meant(self):
+        for rx, is_hardly_meant in (("0", True), ("-0", True), ("1e-300", False)):
+            one = surface(f"toroid vertex=0 index=1 rx={rx} cy=0.1 ky=0 semi=1")
+            self.assertEqual("a cylinder is a biconic with radiusx=inf" in (slip(one) or ""), is_hardly_meant)
+        self.assertIsNone(slip(surface(PLANE)))
 
 
 if __name__ == "__main__":

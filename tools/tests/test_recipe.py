@@ -37,6 +37,14 @@ class Recipe(Refusing, unittest.TestCase):
         self.assertEqual(done.err, f"standard input:2: warning: {said}")
         self.assertEqual(ran("recipe", "--back", given=done.out).err, f"standard input: byte 0: warning: {said}")
 
+    def test_a_toroid_without_a_radius(self):
+        done = ran("recipe", given=b"\ntoroid vertex=0 index=1 rx=0 cy=0.1 ky=0 semi=1\n")
+        self.assertEqual((done.status, len(done.out)), (0, 52))
+        self.assertEqual(done.err, "standard input:2: warning: rx is 0, a circle without a radius, which a beam hardly meets: "
+                                   "a cylinder is a biconic with radiusx=inf\n")
+        self.assertIn("standard input: byte 0: warning: rx is 0", ran("recipe", "--back", given=done.out).err)
+        self.assertEqual(ran("recipe", given=b"biconic vertex=0 index=1 radiusx=inf kx=0 radiusy=9 ky=0 semi=1").err, "")
+
     def test_refusals(self):
         self.assert_refused(ran("recipe", given=b"\ncone"), "standard input:2: 'cone' is no kind")
         self.assert_refused(ran("recipe", given=b"conic\n\xff"), "standard input:2: not text in UTF-8")

@@ -9,6 +9,7 @@ from pathlib import Path
 TOOLS = Path(__file__).resolve().parent.parent
 SAMPLES = TOOLS.parent / "samples"
 LISTINGS = TOOLS / "tests" / "listings"
+CRATES = TOOLS.parent / "crates"
 NAMES = ("doublet", "phone", "mirrors", "toroid")
 
 sys.path.insert(0, str(TOOLS))

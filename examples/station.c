@@ -1,37 +1,34 @@
-/* A centring station. It traces the beam through a lens a few steps a scan, and its gluing cell reads the record of the last surface.
-   It replays the accident too: the beam is lost while the channel still has the hit point of the lens before. Every scan is held against
-   the same trace in one call, bit by bit.
+/* A centring station. It traces the beam through a lens a few steps a scan, and its gluing cell reads the record of the
+   last surface. It replays the accident: the beam is lost while the channel still has the hit point of the lens before.
+   Then power and recipe fail it. Every scan is held against the same trace in one call, bit by bit.
 
-   station LENS [STEPS]: a lens as in samples/, and the steps of a scan (1). The exit status is 1 if a promise was not kept. */
-#include <limits.h>
+   station LENS [STEPS]: a lens as in samples/, and the steps of a scan (1). The exit status is 1 if a promise was not
+   kept. */
 #include <math.h>
 #include <stdio.h>
 #include <stdlib.h>
 #include <string.h>
 
+#include "lens.h"
 #include "pilingrue.h"
+#include "slots.h"
 
-enum { ROOM = PILINGRUE_MOST_RECORDS * PILINGRUE_RECORD_NUMBERS };
-
-/* The file of a lens begins with the beam: 4 bytes of length and kind, then origin, direction and index. The recipe stands behind. */
-enum { BEAM = 7, BEAM_BYTES = 4 + 8 * BEAM };
-
-/* What a station keeps of a trace. With the recipe it outlives a power cycle. */
-typedef struct {
-    uint64_t counts[PILINGRUE_COUNTS];
-    double numbers[PILINGRUE_NUMBERS];
-    double buffer[ROOM];
-} channel;
+/* No trace takes more scans. */
+enum { ALL = PILINGRUE_MOST_RECORDS * PILINGRUE_STEPS_BICONIC };
 
 static const char *const MEANING[] = {
     "blank", "hit", "bad parameter", "negative semi-diameter", "singular", "outside the domain", "missed", "vignetted",
     "total internal reflection", "not finite", "malformed recipe", "buffer too short", "state does not fit",
 };
 static const double BLANK[PILINGRUE_RECORD_NUMBERS];
-static uint8_t file[BEAM_BYTES + PILINGRUE_MOST_RECIPE_BYTES + 1]; /* a byte more, by which a longer recipe is refused */
-static const uint8_t *const recipe = file + BEAM_BYTES;
-static size_t recipe_bytes, surfaces;
+static const channel NOTHING;
+static const slot EMPTY;
+static lens loaded;
+static uint16_t steps_a_scan;
+static size_t surfaces;
+static slot slots[SLOTS]; /* a plant has them in memory that outlives the power */
 static channel live, unbroken;
+static channel last; /* what the last call left, so what has to come back with the power */
 static int broken;
 
 static void promise(int holds, const char *what) {
@@ -40,37 +37,60 @@ static void promise(int holds, const char *what) {
     broken = 1;
 }
 
-static int load(const char *path, double beam[BEAM]) {
-    FILE *f = fopen(path, "rb");
-    size_t size = f ? fread(file, 1, sizeof file, f) : 0;
-    if (f) fclose(f);
-    if (size < BEAM_BYTES) return 0;
-    recipe_bytes = size - BEAM_BYTES;
-    memcpy(beam, file + 4, 8 * BEAM); /* the processor is little-endian, as the file */
-    return 1;
+static uint64_t recipe_checksum(void) { return checksum(loaded.recipe, loaded.recipe_bytes); }
+
+static pilingrue_verdict begin(double x) {
+    const double *b = loaded.beam;
+    channel *c = &live;
+    c->recipe = recipe_checksum();
+    return pilingrue_start(loaded.recipe, loaded.recipe_bytes, x, b[1], b[2], b[3], b[4], b[5], b[6], c->buffer,
+                           PILINGRUE_MOST_ROOM, c->counts, c->numbers);
 }
 
-static pilingrue_verdict trace_unbroken(const double b[BEAM]) {
+static pilingrue_verdict go_on(void) {
+    return pilingrue_continue(loaded.recipe, loaded.recipe_bytes, live.buffer, PILINGRUE_MOST_ROOM, live.counts,
+                              live.numbers, steps_a_scan);
+}
+
+/* What follows each call. A verdict other than 1 means: stop, show nothing, start anew. */
+static void heed(pilingrue_verdict v) {
+    if (v.number == PILINGRUE_ACCEPTED)
+        keep(slots, &live);
+    else
+        stop(slots, &live);
+}
+
+static pilingrue_verdict trace_unbroken(double x) {
+    const double *b = loaded.beam;
     channel *c = &unbroken;
-    return pilingrue_whole(recipe, recipe_bytes, b[0], b[1], b[2], b[3], b[4], b[5], b[6], c->buffer, ROOM, c->counts, c->numbers);
+    return pilingrue_whole(loaded.recipe, loaded.recipe_bytes, x, b[1], b[2], b[3], b[4], b[5], b[6], c->buffer,
+                           PILINGRUE_MOST_ROOM, c->counts, c->numbers);
 }
 
-static const double *record_of(const channel *c, size_t surface) { return c->buffer + PILINGRUE_RECORD_NUMBERS * surface; }
+static const double *record_of(const channel *c, size_t surface) {
+    return c->buffer + PILINGRUE_RECORD_NUMBERS * surface;
+}
 
 static int status_of(const double *record) { return (int)record[PILINGRUE_RECORD_STATUS]; }
 
 static int last_status(void) { return status_of(record_of(&live, surfaces - 1)); }
 
-/* After n steps those records are finished whose steps, added up from the first, are at most n. They are the unbroken trace's, and all
-   else is blank, to the buffer's end. */
-static int as_unbroken(uint64_t n) {
-    double steps = 0;
+/* Those records are finished whose steps, added up from the first, are at most the trace's. They are the unbroken
+   trace's, and all else is blank, to the buffer's end. */
+static int as_unbroken(void) {
+    double made = (double)live.counts[PILINGRUE_COUNTS_STEPS], sum = 0;
     for (size_t i = 0; i < PILINGRUE_MOST_RECORDS; i++) {
         const double *whole = record_of(&unbroken, i);
-        steps += whole[PILINGRUE_RECORD_STEPS];
-        if (memcmp(record_of(&live, i), steps <= (double)n ? whole : BLANK, sizeof BLANK) != 0) return 0;
+        sum += whole[PILINGRUE_RECORD_STEPS];
+        if (memcmp(record_of(&live, i), sum <= made ? whole : BLANK, sizeof BLANK) != 0) return 0;
     }
     return 1;
+}
+
+static int ends_as_unbroken(void) {
+    return memcmp(live.counts, unbroken.counts, sizeof live.counts) == 0 &&
+           memcmp(live.numbers, unbroken.numbers, sizeof live.numbers) == 0 &&
+           memcmp(live.buffer, unbroken.buffer, sizeof live.buffer) == 0;
 }
 
 static void show_record(const double *record) {
@@ -85,71 +105,214 @@ static void show_record(const double *record) {
 }
 
 /* What the operator sees: each surface, and what the cell does with the last. */
-static void show(pilingrue_verdict v) {
-    int last = last_status();
-    if (v.number != PILINGRUE_ACCEPTED) printf(" is refused, %s", MEANING[v.number]);
+static void show(void) {
+    int status = last_status();
     for (size_t i = 0; i < surfaces; i++) show_record(record_of(&live, i));
-    printf(" | the cell %s\n", last == PILINGRUE_HIT ? "glues" : last == PILINGRUE_BLANK ? "reads blank" : "does not glue");
+    printf(" | the cell %s\n",
+           status == PILINGRUE_HIT ? "glues" : status == PILINGRUE_BLANK ? "reads blank" : "does not glue");
 }
 
-static void start(const char *lens, const double b[BEAM], uint64_t expected) {
-    channel *c = &live;
-    pilingrue_verdict v =
-        pilingrue_start(recipe, recipe_bytes, b[0], b[1], b[2], b[3], b[4], b[5], b[6], c->buffer, ROOM, c->counts, c->numbers);
-    trace_unbroken(b);
-    printf("\n%s\nstart", lens);
-    show(v);
-    promise(v.number == expected, "what a start answers");
-    promise(as_unbroken(0), "a start leaves nothing of the lens before");
+/* The answer to a call, after the station heeded it. */
+static void answered(pilingrue_verdict v, uint64_t expected) {
+    if (v.number != PILINGRUE_ACCEPTED) printf(" is refused, %s", MEANING[v.number]);
+    show();
+    promise(v.number == expected, "what a call answers");
+    promise(as_unbroken(), "a record is the unbroken trace's or blank");
+    last = live;
 }
 
-/* From one scan to another, or to the trace's end or a refusal. */
-static void scans(int from, int to, uint16_t steps, uint64_t expected) {
+static void start(double x, uint64_t expected) {
+    pilingrue_verdict v = begin(x);
+    promise(memcmp(live.buffer, NOTHING.buffer, sizeof live.buffer) == 0, "a start leaves nothing of the lens before");
+    heed(v);
+    trace_unbroken(x);
+    printf("start");
+    answered(v, expected);
+}
+
+/* From one scan to another, or to a refusal or the trace's end. */
+static void scans(int from, int to, uint64_t expected) {
     for (int n = from; n <= to; n++) {
-        pilingrue_verdict v = pilingrue_continue(recipe, recipe_bytes, live.buffer, ROOM, live.counts, live.numbers, steps);
+        pilingrue_verdict v = go_on();
+        int refused = v.number != PILINGRUE_ACCEPTED;
+        promise(!refused || memcmp(&live, &last, sizeof live) == 0, "a refused scan writes nothing");
+        heed(v);
         printf("scan %d", n);
-        show(v);
-        promise(v.number == expected, "what a scan answers");
-        promise(as_unbroken(live.counts[PILINGRUE_COUNTS_STEPS]), "a record is the unbroken trace's or blank");
-        if (v.number != PILINGRUE_ACCEPTED) return;
+        answered(v, expected);
+        if (refused) return;
         if (live.counts[PILINGRUE_COUNTS_OUTCOME] == PILINGRUE_RUNNING) continue;
-        promise(memcmp(&live, &unbroken, sizeof live) == 0, "a trace ends as the unbroken one");
+        promise(ends_as_unbroken(), "a trace ends as the unbroken one");
         return;
+    }
+    promise(to < ALL, "scans come to an end");
+}
+
+/* The power fails outside a call. */
+static void lose_live(void) { memset(&live, 0xA5, sizeof live); }
+
+/* The power fails inside a call: the arrays are torn, with the counts of after it and the numbers of before. */
+static void tear_live(void) {
+    go_on();
+    memcpy(live.numbers, last.numbers, sizeof live.numbers);
+}
+
+static uint8_t *newest_copy(void) { return (uint8_t *)&slots[live.turn % SLOTS]; }
+
+/* The power fails, and one byte of the newest copy is not what was written. */
+static void spoil_copy(size_t at) {
+    newest_copy()[at] ^= 0xFF;
+    lose_live();
+}
+
+/* The power fails in a copy: the byte that was under way is spoiled, and behind it stands what was there. */
+static void cut_copy(const slot *was, size_t at) {
+    memcpy(newest_copy() + at + 1, (const uint8_t *)was + at + 1, sizeof *was - at - 1);
+    spoil_copy(at);
+}
+
+static void come_back(restored expected) {
+    restored found = restore(slots, &live, recipe_checksum());
+    promise(found == expected, "what comes back with the power");
+    promise(memcmp(&live, expected == RESTORED ? &last : &NOTHING, sizeof live) == 0,
+            "the power brings back what the last accepted call left, or nothing");
+    last = live;
+}
+
+static void power_cycle(const char *failed, restored expected) {
+    static const char *const BUT[] = {"", ": no copy is whole", ": the recipe is another"};
+    come_back(expected);
+    printf("%s, and comes back%s", failed, BUT[expected]);
+    show();
+}
+
+/* Another number in the recipe, or another kind; the same flip puts it back. */
+static void flip_recipe(size_t at, uint8_t bits) { loaded.recipe[at] ^= bits; }
+
+static size_t last_place(void) {
+    size_t at = 0, next = 0;
+    while (next < loaded.recipe_bytes) {
+        at = next;
+        next += 2 + loaded.recipe[at] + 256 * (size_t)loaded.recipe[at + 1];
+    }
+    return at;
+}
+
+/* The copies of the lens before go first: they must not come back once the next lens is in the holder. */
+static void change_lens(const char *title) {
+    forget(slots);
+    printf("\n%s\n", title);
+}
+
+static void beam_is_there(double x) {
+    change_lens("Lens 1: the beam is there.");
+    start(x, PILINGRUE_ACCEPTED);
+    scans(1, ALL, PILINGRUE_ACCEPTED);
+}
+
+static void beam_is_lost(void) {
+    change_lens("Lens 2: the beam is lost, and the sensor gives no number. The channel had lens 1.");
+    start(NAN, PILINGRUE_BAD_PARAMETER);
+    scans(1, ALL, PILINGRUE_STATE_DOES_NOT_FIT);
+    lose_live();
+    power_cycle("the power fails", NO_WHOLE_COPY);
+}
+
+static void power_fails_at_calls(double x) {
+    change_lens("Lens 3: the power fails between two calls, then inside one.");
+    start(x, PILINGRUE_ACCEPTED);
+    lose_live();
+    come_back(RESTORED);
+    scans(1, 1, PILINGRUE_ACCEPTED);
+    lose_live();
+    power_cycle("the power fails", RESTORED);
+    scans(2, 2, PILINGRUE_ACCEPTED);
+    tear_live();
+    power_cycle("the power fails inside scan 3", RESTORED);
+    scans(3, ALL, PILINGRUE_ACCEPTED);
+}
+
+static void scan_unseen(void) { heed(go_on()); }
+
+/* The copy of a scan is cut or spoiled at several bytes, and the scan before it comes back each time. */
+static void spoil_copies(const slot *was) {
+    static const size_t BYTES[] = {0, 1, offsetof(slot, copy.numbers), sizeof(slot) / 2, sizeof(slot) - 1};
+    for (size_t i = 0; i < sizeof BYTES / sizeof *BYTES; i++) {
+        scan_unseen();
+        cut_copy(was, BYTES[i]);
+        come_back(RESTORED);
+        scan_unseen();
+        spoil_copy(BYTES[i]);
+        come_back(RESTORED);
     }
 }
 
-static void power_cycle(void) {
-    static channel kept;
-    kept = live;
-    memset(&live, 0xA5, sizeof live);
-    live = kept;
-    puts("the power fails, and comes back");
+static void power_fails_in_copies(double x) {
+    static slot was;
+    change_lens("Lens 4: the power fails in a copy, of the start and of a scan. The slots had lens 3.");
+    start(x, PILINGRUE_ACCEPTED);
+    cut_copy(&EMPTY, sizeof(slot) / 2);
+    power_cycle("the power fails in the copy of the start", NO_WHOLE_COPY);
+    start(x, PILINGRUE_ACCEPTED);
+    scans(1, 1, PILINGRUE_ACCEPTED);
+    was = slots[(live.turn + 1) % SLOTS];
+    spoil_copies(&was);
+    scan_unseen();
+    cut_copy(&was, sizeof(slot) / 2);
+    power_cycle("the power fails in the copy of scan 2", RESTORED);
+    scans(2, ALL, PILINGRUE_ACCEPTED);
 }
 
-static void work(const double beam[BEAM], uint16_t steps) {
-    double lost[BEAM];
-    start("Lens 1: the beam is there.", beam, PILINGRUE_ACCEPTED);
-    scans(1, INT_MAX, steps, PILINGRUE_ACCEPTED);
+static void recipe_is_exchanged(double x) {
+    size_t at = loaded.recipe_bytes - 2; /* in the last number, so in a semi-diameter where that is last */
+    change_lens("Lens 5: while the power is off, the recipe is exchanged for one with another last number.");
+    start(x, PILINGRUE_ACCEPTED);
+    scans(1, 1, PILINGRUE_ACCEPTED);
+    lose_live();
+    flip_recipe(at, 8);
+    power_cycle("the power fails", ANOTHER_RECIPE);
+    start(x, PILINGRUE_ACCEPTED);
+    scans(1, ALL, PILINGRUE_ACCEPTED);
+    flip_recipe(at, 8);
+    scan_unseen(); /* with a recipe that is not the trace's: its copy still has the checksum of the other */
+    lose_live();
+    come_back(ANOTHER_RECIPE);
+}
 
-    memcpy(lost, beam, sizeof lost);
-    lost[0] = NAN;
-    start("Lens 2: the beam is lost, and the sensor gives no number. The channel had lens 1.", lost, PILINGRUE_BAD_PARAMETER);
-    scans(1, 1, steps, PILINGRUE_STATE_DOES_NOT_FIT);
+static void recipe_goes_bad(double x) {
+    size_t at = last_place() + 2;
+    change_lens("Lens 6: the recipe's memory goes bad between two scans, in the kind of the last surface.");
+    start(x, PILINGRUE_ACCEPTED);
+    scans(1, 1, PILINGRUE_ACCEPTED);
+    flip_recipe(at, 255);
+    scans(2, ALL, PILINGRUE_MALFORMED);
+    flip_recipe(at, 255);
+    lose_live();
+    power_cycle("the recipe is loaded again, the power fails", NO_WHOLE_COPY);
+    start(x, PILINGRUE_ACCEPTED);
+    scans(1, ALL, PILINGRUE_ACCEPTED);
+}
 
-    start("Lens 3: the beam is back, and the power fails in the middle.", beam, PILINGRUE_ACCEPTED);
-    scans(1, 2, steps, PILINGRUE_ACCEPTED);
-    power_cycle();
-    scans(3, INT_MAX, steps, PILINGRUE_ACCEPTED);
+static void beam_is_knocked_aside(double x) {
+    change_lens("Lens 7: the beam is knocked 40 mm aside. The channel had lens 6.");
+    start(x + 40.0, PILINGRUE_ACCEPTED);
+    scans(1, ALL, PILINGRUE_ACCEPTED);
+    promise((last_status() == PILINGRUE_HIT) == (unbroken.counts[PILINGRUE_COUNTS_OUTCOME] == PILINGRUE_DONE),
+            "no hit without a beam");
+}
 
-    lost[0] = beam[0] + 40.0;
-    start("Lens 4: the beam is knocked 40 mm aside. The channel had lens 3.", lost, PILINGRUE_ACCEPTED);
-    scans(1, INT_MAX, steps, PILINGRUE_ACCEPTED);
-    promise((last_status() == PILINGRUE_HIT) == (unbroken.counts[PILINGRUE_COUNTS_OUTCOME] == PILINGRUE_DONE), "no hit without a beam");
+static void work(double x) {
+    beam_is_there(x);
+    beam_is_lost();
+    power_fails_at_calls(x);
+    power_fails_in_copies(x);
+    recipe_is_exchanged(x);
+    recipe_goes_bad(x);
+    beam_is_knocked_aside(x);
 }
 
 /* A new lens is tried once as a whole. */
-static int suits(const double beam[BEAM]) {
-    pilingrue_verdict v = trace_unbroken(beam);
+static int suits(double x) {
+    pilingrue_verdict v = trace_unbroken(x);
     uint64_t number = v.number == PILINGRUE_ACCEPTED ? unbroken.counts[PILINGRUE_COUNTS_OUTCOME] : v.number;
     surfaces = unbroken.counts[PILINGRUE_COUNTS_SURFACE];
     if (number != PILINGRUE_DONE) fprintf(stderr, "station: %s, place %d\n", MEANING[number], (int)v.place);
@@ -157,16 +320,16 @@ static int suits(const double beam[BEAM]) {
 }
 
 int main(int argc, char **argv) {
-    double beam[BEAM];
     long steps = argc == 3 ? strtol(argv[2], NULL, 10) : 1;
-    if (argc < 2 || argc > 3 || steps < 1 || steps > UINT16_MAX || !load(argv[1], beam)) {
+    if (argc < 2 || argc > 3 || steps < 1 || steps > UINT16_MAX || !load(&loaded, argv[1])) {
         fputs("usage: station LENS [STEPS]\n", stderr);
         return 2;
     }
     promise(pilingrue_version() == PILINGRUE_VERSION, "header and archive have one version");
-    if (!suits(beam)) return 2;
+    if (!suits(loaded.beam[0])) return 2;
     printf("interface %d, surfaces %d, steps a scan %ld\n", PILINGRUE_VERSION, (int)surfaces, steps);
-    work(beam, (uint16_t)steps);
+    steps_a_scan = (uint16_t)steps;
+    work(loaded.beam[0]);
     puts(broken ? "\nA PROMISE WAS NOT KEPT" : "\nevery promise was kept");
     return broken;
 }

@@ -1,19 +1,34 @@
-/* Pilingrue follows one alignment beam through a lens recipe, a few steps in each controller scan, and shows a record only once it is
-   final. This is all of its C interface; link libstation.a.
+/* SPDX-License-Identifier: MIT OR Apache-2.0 (LICENSE-MIT, LICENSE-APACHE; NOTICE says what comes from OpticsLab)
+
+   Pilingrue follows one alignment beam through a lens recipe, a few steps in each controller scan, and shows a record
+   only once it is final. This is all of its C interface; link libstation.a, which is for x86-64 and its System V
+   calling convention.
 
    A station works like this:
 
      pilingrue_start      once for each lens: checks recipe and beam, blanks the result buffer, takes no step;
-     pilingrue_continue   in each scan, with as many steps as the scan has time for, until counts[PILINGRUE_COUNTS_OUTCOME] is not 0;
+     pilingrue_continue   in each scan, with as many steps as the scan has time for;
      pilingrue_whole      instead of both, where there is time for all steps at once.
 
-   After each call every record in the buffer is either finished, and then the same bit by bit as in the unbroken trace, or blank: +0.0
-   in all of its numbers. (Nobody else may change the buffer and the state in between.) Nothing of the last lens is left after a start,
-   a refused one included. So read a record's status first: only a 1 is a hit, and a 0 is blank.
+   After each call ask for its verdict first, and only then for the outcome, counts[PILINGRUE_COUNTS_OUTCOME]:
 
-   The library has no memory of its own. A call reads and writes what it is lent here and nothing else, so any number of traces may be
-   under way at once. It takes about 2 KB of stack, and of the C library it asks for memset and at most memcpy. Every call ends, with an
-   answer or a refusal, whatever the bytes and numbers are. Lengths are in millimetres. */
+     verdict other than 1   stop, show nothing, start anew;
+     outcome 0              the trace goes on in the next scan;
+     outcome 1              it is done: the beam hit all surfaces;
+     any other outcome      it has ended: the beam was lost, and the outcome says how.
+
+   A refused continuation writes nothing. The outcome stays 0 then, so a loop that waits for another one never ends if
+   the recipe's memory goes bad; and the buffer keeps what it had, which is why nothing of it may be shown any more.
+
+   After each accepted call every record in the buffer is either finished, and then the same bit by bit as in the
+   unbroken trace, or blank: +0.0 in all of its numbers. (Nobody else may change the buffer and the state in between.)
+   Nothing of the last lens is left after a start, a refused one included. So read a record's status first: only a 1
+   is a hit, and a 0 is blank.
+
+   The library has no memory of its own. A call reads and writes what it is lent here and nothing else, so any number
+   of traces may be under way at once. It takes about 2 KB of stack, and of the C library it asks for memset and at
+   most memcpy. Every call ends, with an answer or a refusal, whatever the bytes and numbers are; bench/steps counts
+   the instructions of the dearest that were found. Lengths are in millimetres. */
 #ifndef PILINGRUE_H
 #define PILINGRUE_H
 
@@ -33,7 +48,7 @@ extern "C" {
 #define PILINGRUE_HIT 1                    /* status: the beam hit the surface and goes on */
 #define PILINGRUE_DONE 1                   /* outcome: the beam hit all surfaces */
 #define PILINGRUE_ACCEPTED 1               /* answer: the call was accepted. The outcome says where the beam went */
-#define PILINGRUE_BAD_PARAMETER 2          /* a number is not finite, or a negative semi-diameter of a surface that is no conic */
+#define PILINGRUE_BAD_PARAMETER 2          /* a number is not finite, or the semi-diameter of no conic is negative */
 #define PILINGRUE_NEGATIVE_SEMI_DIAMETER 3 /* negative semi-diameter of a conic */
 #define PILINGRUE_SINGULAR 4               /* no direction or slope can be computed, or an index is not above 0 */
 #define PILINGRUE_OUTSIDE_DOMAIN 5         /* outside the surface's domain */
@@ -45,14 +60,16 @@ extern "C" {
 #define PILINGRUE_BUFFER_TOO_SHORT 11      /* the result buffer has no room for all surfaces */
 #define PILINGRUE_STATE_DOES_NOT_FIT 12    /* the state does not fit the recipe */
 
-/* What a call answers: 1, or why it was refused, and the byte place in the recipe of the record that was refused, else 0. */
+/* What a call answers: 1, or why it was refused, and the byte place in the recipe of the record that was refused,
+   else 0. */
 typedef struct pilingrue_verdict {
     uint64_t number;
     uint64_t place;
 } pilingrue_verdict;
 
-/* The result buffer has PILINGRUE_RECORD_NUMBERS numbers for each surface, in the recipe's order: the record of surface i begins at
-   buffer[PILINGRUE_RECORD_NUMBERS * i]. The buffer may be longer than the recipe needs: a start blanks it to its end. */
+/* The result buffer has PILINGRUE_RECORD_NUMBERS numbers for each surface, in the recipe's order: the record of
+   surface i begins at buffer[PILINGRUE_RECORD_NUMBERS * i]. The buffer may be longer than the recipe needs: a start
+   blanks it to its end. One of PILINGRUE_MOST_ROOM numbers suffices for every recipe. */
 #define PILINGRUE_RECORD_NUMBERS 13
 #define PILINGRUE_RECORD_STATUS 0    /* a number of the table; 0 is blank */
 #define PILINGRUE_RECORD_T 1         /* distance along the beam, in lengths of its direction */
@@ -65,11 +82,19 @@ typedef struct pilingrue_verdict {
 #define PILINGRUE_RECORD_R 1         /* distance from the axis at which the beam met the surface; may be infinite */
 #define PILINGRUE_RECORD_LIMIT 2     /* the semi-diameter */
 
-/* The state of a trace is two arrays. Keep them from call to call and do not change them. Kept with the recipe and the buffer over a
-   power cycle, they let the trace go on as if nothing had been. Any other contents are answered too: 12, or the trace that they tell. */
+/* The state of a trace is two arrays. Keep them from call to call and do not change them. Other contents are answered
+   too: by 12, or by the trace that they tell, which a later call may still refuse with 12.
+
+   A trace can go on after a power cycle as if nothing had been, from a copy of both arrays and the buffer. Take it
+   only after an accepted call has returned: a power failure inside a call leaves them torn, partly of before and
+   partly of after, and a torn pair of arrays can pass 12. Write copies into two slots by turns, each with a count and
+   a checksum, so that a failure in the middle of a copy leaves the other; and forget both after a refusal and before
+   the next lens is in the holder. A state does not know its recipe either, and goes on with any other of the same
+   shapes: keep a checksum of the recipe beside it, and start anew if another recipe is there. examples/slots.h has
+   all of this. */
 #define PILINGRUE_COUNTS 5
-#define PILINGRUE_COUNTS_SURFACE 0 /* number of the surface that the beam is on its way to, from 0; once done, how many there are */
-#define PILINGRUE_COUNTS_PLACE 1   /* byte place of its record in the recipe */
+#define PILINGRUE_COUNTS_SURFACE 0 /* number of the surface that the beam goes to, from 0; their count once done */
+#define PILINGRUE_COUNTS_PLACE 1   /* byte place of its record in the recipe; the recipe's length once done */
 #define PILINGRUE_COUNTS_PASSES 2  /* steps made on it so far */
 #define PILINGRUE_COUNTS_STEPS 3   /* steps made on all surfaces */
 #define PILINGRUE_COUNTS_OUTCOME 4 /* 0 while the trace runs, 1 when it is done, else what ended it */
@@ -80,8 +105,9 @@ typedef struct pilingrue_verdict {
 #define PILINGRUE_NUMBERS_INDEX 7     /* refractive index that it is in */
 #define PILINGRUE_NUMBERS_PATH 8      /* the sum of t over all hits */
 
-/* A recipe is one record after the other, without gaps: a u16 length (the bytes after itself), a u16 kind, then binary64 numbers, all
-   little-endian. Each begins with vertex z and the refractive index behind the surface, then by kind:
+/* A recipe is one record after the other, without gaps: a u16 length (the bytes after itself), a u16 kind, then
+   binary64 numbers, all little-endian. Each begins with vertex z and the refractive index behind the surface, then by
+   kind:
 
      kind               numbers                              length
      1  conic           c, k, semi-diameter                  42
@@ -89,8 +115,13 @@ typedef struct pilingrue_verdict {
      3  biconic         cx, kx, cy, ky, semi-diameter        58
      4  toroid          rx, cy, ky, semi-diameter            50
 
-   c is a curvature, k a conic constant. Kind + 256 is the same surface as a mirror: its index is checked and not used. An empty recipe
-   is done at once. */
+   c, cx and cy are curvatures in 1/mm, 0 for a plane; only rx, of a toroid's circle, is a radius, in mm. k, kx and ky
+   are conic constants. Coefficient i of an even asphere, from 1, multiplies r^(2i). A cylinder is a biconic with cx or
+   cy 0, and no toroid with rx 0. Kind + 256 is the same surface as a mirror: its index is checked and not used. An
+   empty recipe is done at once.
+
+   The files in samples/, and what tools/recipe makes of a text with a ray, are a program's: they begin with 60 bytes
+   of the ray, which no call here takes. The recipe is what stands behind. */
 #define PILINGRUE_KIND_CONIC 1
 #define PILINGRUE_KIND_EVEN_ASPHERE 2
 #define PILINGRUE_KIND_BICONIC 3
@@ -98,9 +129,10 @@ typedef struct pilingrue_verdict {
 #define PILINGRUE_KIND_MIRROR 256
 #define PILINGRUE_MOST_RECORDS 512
 #define PILINGRUE_MOST_RECIPE_BYTES 55296 /* of 512 even aspheres with 8 coefficients each */
+#define PILINGRUE_MOST_ROOM 6656          /* numbers of the largest buffer, for 512 records */
 
-/* A step is a whole conic, or one pass of the search on another kind. A surface takes at most so many; so the sum over the recipe is
-   the most that a trace takes, and never more than 512 * 35 = 17,920. */
+/* A step is a whole conic, or one pass of the search on another kind. A surface takes at most so many; so the sum
+   over the recipe is the most that a trace takes, and never more than 512 * 35 = 17,920. */
 #define PILINGRUE_STEPS_CONIC 1
 #define PILINGRUE_STEPS_EVEN_ASPHERE 25
 #define PILINGRUE_STEPS_BICONIC 35
@@ -109,39 +141,46 @@ typedef struct pilingrue_verdict {
 /* The version of the archive. */
 uint64_t pilingrue_version(void);
 
-/* Starts a trace: beam from (ox, oy, oz) in direction (dx, dy, dz), in a medium of this refractive index. Give a direction of length 1:
-   the first t is counted in its lengths. No step is taken.
+/* Starts a trace: beam from (ox, oy, oz) in direction (dx, dy, dz), in a medium of this refractive index. Give a
+   direction of length 1: the first t is counted in its lengths. No step is taken.
 
    recipe     read only
-   buffer     all `room` numbers become +0.0, whatever is answered
+   buffer     all `room` numbers become +0.0, whatever is answered: a longer buffer takes longer
    counts     written, whatever is answered
    numbers    written, whatever is answered
 
-   Checked in this order: each record by itself, its shape (10), that its numbers are finite (2), its semi-diameter (3 for a conic, 2 for
-   the others), its index (4); then the beam, that its numbers are finite (2) and its index is above 0 (4); then the room (11). After a
-   refusal the outcome is its number, and all else in both arrays 0: to continue that is 12. */
-pilingrue_verdict pilingrue_start(const uint8_t *recipe, size_t recipe_bytes, double ox, double oy, double oz, double dx, double dy,
-                                  double dz, double index, double *buffer, size_t room, uint64_t counts[PILINGRUE_COUNTS],
-                                  double numbers[PILINGRUE_NUMBERS]);
+   Checked in this order: each record by itself, its shape (10), that its numbers are finite (2), its semi-diameter (3
+   for a conic, 2 for the others), its index (4); then the beam, that its numbers are finite (2) and its index is
+   above 0 (4); then the room (11). After a refusal the outcome is its number, and all else in both arrays is 0. To
+   continue that is refused as well: with the same number and place where recipe or room were refused, with 12 where
+   the beam was (11 if the room is too short as well). */
+pilingrue_verdict pilingrue_start(const uint8_t *recipe, size_t recipe_bytes, double ox, double oy, double oz,
+                                  double dx, double dy, double dz, double index, double *buffer, size_t room,
+                                  uint64_t counts[PILINGRUE_COUNTS], double numbers[PILINGRUE_NUMBERS]);
 
-/* Takes up to `allowed` steps, none once the trace has ended. Give the recipe, the buffer and the arrays as the last call left them.
+/* Takes up to `allowed` steps, none once the trace has ended. Give the recipe, the buffer and the arrays as the last
+   call left them.
 
    recipe     read only
-   buffer     accepted: the records of the surfaces that end in this call are written, and no other number. Refused: nothing is written
+   buffer     accepted: the records of the surfaces that end in this call are written, and no other number. Refused:
+              nothing is written
    counts     accepted: written. Refused: nothing is written
    numbers    accepted: written. Refused: nothing is written
 
-   Checked in this order: the recipe as in a start, the room (11), the state (12). A trace that a start began, and that is continued with
-   the same recipe and enough room, is never refused. Where the beam is lost the call is accepted, and the outcome says how it was lost.
-   C narrows an allowance above 65,535 to 16 bits before the call: 65,536 becomes 0. */
+   Checked in this order: the recipe as in a start, the room (11), the state (12). Every continuation checks the whole
+   recipe, whatever is allowed: a longer one takes longer, also where 0 steps are. A trace that a start began, and
+   that is continued with the same recipe and enough room, is never refused. Where the beam is lost the call is
+   accepted, and the outcome says how it was lost. C narrows an allowance above 65,535 to 16 bits before the call:
+   65,536 becomes 0. */
 pilingrue_verdict pilingrue_continue(const uint8_t *recipe, size_t recipe_bytes, double *buffer, size_t room,
-                                     uint64_t counts[PILINGRUE_COUNTS], double numbers[PILINGRUE_NUMBERS], uint16_t allowed);
+                                     uint64_t counts[PILINGRUE_COUNTS], double numbers[PILINGRUE_NUMBERS],
+                                     uint16_t allowed);
 
-/* The whole trace in one call: a start, then all steps. Arguments, refusals and what is written are a start's; if it is accepted the
-   trace has ended. */
-pilingrue_verdict pilingrue_whole(const uint8_t *recipe, size_t recipe_bytes, double ox, double oy, double oz, double dx, double dy,
-                                  double dz, double index, double *buffer, size_t room, uint64_t counts[PILINGRUE_COUNTS],
-                                  double numbers[PILINGRUE_NUMBERS]);
+/* The whole trace in one call: a start, then all steps. Arguments, refusals and what is written are a start's; if it
+   is accepted the trace has ended. */
+pilingrue_verdict pilingrue_whole(const uint8_t *recipe, size_t recipe_bytes, double ox, double oy, double oz,
+                                  double dx, double dy, double dz, double index, double *buffer, size_t room,
+                                  uint64_t counts[PILINGRUE_COUNTS], double numbers[PILINGRUE_NUMBERS]);
 
 /* What C must not do. The calls cannot see it, and nothing can be said of what happens then:
 
@@ -149,9 +188,13 @@ pilingrue_verdict pilingrue_whole(const uint8_t *recipe, size_t recipe_bytes, do
    - memory that is shorter than its length says, or an array that is shorter than declared here;
    - a buffer or an array that is not aligned as its type asks (the recipe's bytes may stand anywhere);
    - recipe, buffer and the two arrays that overlap;
-   - another thread, interrupt or device that writes them during a call, or reads buffer and arrays before it has returned: a record is
-     whole between calls. Copy it out for others then;
-   - another rounding than to nearest, or subnormal numbers taken as zero (FTZ, DAZ): the defaults of C and of the processor are right. */
+   - another thread, interrupt or device that writes them during a call, or reads buffer and arrays before it has
+     returned: a record is whole between calls. Copy it out for others then;
+   - floating-point exceptions that are not masked, any of them: infinities and NaN come up on the way to an answer,
+     and an unmasked invalid or overflow traps inside the call, also in a start that would refuse the number;
+   - another rounding than to nearest, or subnormal numbers taken as zero (FTZ, DAZ).
+
+   Masks, rounding and subnormal numbers are right as C and the processor have them at a program's start. */
 
 #ifdef __cplusplus
 }

@@ -25,6 +25,7 @@ CHANGES = {
     "another number of the table": (HEADER, "MISSED 6", "MISSED 5", "PILINGRUE_MISSED is 5"),
     "another limit": (HEADER, "STEPS_EVEN_ASPHERE 25", "STEPS_EVEN_ASPHERE 35", "PILINGRUE_STEPS_EVEN_ASPHERE is 35"),
     "more records": (HEADER, "MOST_RECORDS 512", "MOST_RECORDS 513", "PILINGRUE_MOST_RECORDS is 513"),
+    "a shorter buffer": (HEADER, "MOST_ROOM 6656", "MOST_ROOM 6655", "PILINGRUE_MOST_ROOM is 6655"),
     "one constant more": (HEADER, "COUNTS 5\n", "COUNTS 5\n#define PILINGRUE_MORE 1\n", "PILINGRUE_MORE is in"),
     "one constant less": (HEADER, "#define PILINGRUE_MALFORMED 10", "", "PILINGRUE_MALFORMED is not"),
     "a wider allowance": (HEADER, "uint16_t allowed", "uint32_t allowed", "uint32_t allowed"),

@@ -1,5 +1,5 @@
-//! Safe functions over the trace of `libstation.a`. `include/pilingrue.h` has what each call does; the constants are the header's, without
-//! their prefix.
+//! Safe functions over the trace of `libstation.a`. `include/pilingrue.h` has what each call does; the constants are
+//! the header's, without their prefix.
 
 mod raw;
 
@@ -55,6 +55,7 @@ pub const KIND_TOROID: u16 = 4;
 pub const KIND_MIRROR: u16 = 256;
 pub const MOST_RECORDS: usize = 512;
 pub const MOST_RECIPE_BYTES: usize = 55296;
+pub const MOST_ROOM: usize = 6656;
 
 pub const STEPS_CONIC: u16 = 1;
 pub const STEPS_EVEN_ASPHERE: u16 = 25;
@@ -69,7 +70,7 @@ pub struct Beam {
     pub index: f64,
 }
 
-/// A trace's state. Kept with the recipe and the buffer, it outlives a power cycle.
+/// A trace's state. It does not know its recipe. For a power cycle copy it with the buffer, after a call has returned.
 #[derive(Clone, Copy, Debug, Default)]
 pub struct State {
     pub counts: [u64; COUNTS],
@@ -85,11 +86,11 @@ pub enum Record {
     Refused { number: u64, steps: u16 },
 }
 
-/// One trace at a time, in a lent buffer.
+/// One trace at a time, in a lent buffer and a lent state, which outlive it.
 pub struct Trace<'a> {
     recipe: &'a [u8],
     buffer: &'a mut [f64],
-    state: State,
+    state: &'a mut State,
 }
 
 /// The version of the archive.
@@ -115,47 +116,58 @@ impl Record {
             number => Record::Refused { number, steps },
         }
     }
+
+    /// The record of a surface, blank where the buffer has none.
+    pub fn at(buffer: &[f64], surface: usize) -> Record {
+        let record = buffer.chunks_exact(RECORD_NUMBERS).nth(surface);
+        record.and_then(|record| record.first_chunk()).map_or(Record::Blank, Record::of)
+    }
 }
 
 impl<'a> Trace<'a> {
     /// No trace yet, and a blank buffer.
-    pub fn new(recipe: &'a [u8], buffer: &'a mut [f64]) -> Trace<'a> {
-        buffer.fill(0.0);
-        Trace::restored(recipe, buffer, State::default())
+    pub fn new(recipe: &'a [u8], buffer: &'a mut [f64], state: &'a mut State) -> Trace<'a> {
+        let mut trace = Trace::restored(recipe, buffer, state);
+        trace.stop();
+        trace
     }
 
-    /// A trace from what was kept of it.
-    pub fn restored(recipe: &'a [u8], buffer: &'a mut [f64], state: State) -> Trace<'a> {
+    /// The trace that was left in buffer and state.
+    pub fn restored(recipe: &'a [u8], buffer: &'a mut [f64], state: &'a mut State) -> Trace<'a> {
         Trace { recipe, buffer, state }
     }
 
     /// Blanks the buffer and starts with this beam. No step is taken.
     pub fn start(&mut self, beam: &Beam) -> Result<(), Verdict> {
-        raw::start(self.recipe, beam, self.buffer, &mut self.state).accepted()
+        raw::start(self.recipe, beam, self.buffer, self.state).accepted()
     }
 
-    /// Takes up to so many steps, none once the trace has ended.
+    /// Takes up to so many steps, none once the trace has ended. After a refusal: stop, and start anew.
     pub fn resume(&mut self, allowed: u16) -> Result<(), Verdict> {
-        raw::resume(self.recipe, self.buffer, &mut self.state, allowed).accepted()
+        raw::resume(self.recipe, self.buffer, self.state, allowed).accepted()
     }
 
     /// A start and all steps.
     pub fn whole(&mut self, beam: &Beam) -> Result<(), Verdict> {
-        raw::whole(self.recipe, beam, self.buffer, &mut self.state).accepted()
+        raw::whole(self.recipe, beam, self.buffer, self.state).accepted()
+    }
+
+    /// Blanks the buffer and forgets the state: nothing is shown, and only a start goes on.
+    pub fn stop(&mut self) {
+        self.buffer.fill(0.0);
+        *self.state = State::default();
     }
 
     pub fn state(&self) -> State {
-        self.state
+        *self.state
     }
 
     pub fn buffer(&self) -> &[f64] {
         self.buffer
     }
 
-    /// The record of a surface, blank where the buffer has none.
     pub fn record(&self, surface: usize) -> Record {
-        let record = self.buffer.chunks_exact(RECORD_NUMBERS).nth(surface);
-        record.and_then(|record| record.first_chunk()).map_or(Record::Blank, Record::of)
+        Record::at(self.buffer, surface)
     }
 
     pub fn outcome(&self) -> u64 {

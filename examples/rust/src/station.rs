@@ -1,17 +1,26 @@
 //! The controller of `examples/station.c` in Rust: it prints the same.
 //!
-//! station LENS [STEPS]: a lens as in samples/, and the steps of a scan (1). The exit status is 1 if a promise was not kept.
+//! station LENS [STEPS]: a lens as in samples/, and the steps of a scan (1). The exit status is 1 if a promise was not
+//! kept.
+
+mod slots;
 
 use pilingrue::{
-    ACCEPTED, BAD_PARAMETER, Beam, COUNTS_STEPS, COUNTS_SURFACE, DONE, MOST_RECORDS, RECORD_NUMBERS, RECORD_STEPS,
-    RUNNING, Record, STATE_DOES_NOT_FIT, Trace, VERSION, Verdict,
+    ACCEPTED, BAD_PARAMETER, Beam, COUNTS_OUTCOME, COUNTS_STEPS, COUNTS_SURFACE, DONE, MALFORMED, MOST_RECORDS,
+    RECORD_NUMBERS, RECORD_STEPS, RUNNING, Record, STATE_DOES_NOT_FIT, STEPS_BICONIC, VERSION, Verdict,
 };
+use slots::{CHANNEL_BYTES, Channel, Restored, SLOT_BYTES, Slots, checksum};
 use std::process::ExitCode;
 
-const ROOM: usize = MOST_RECORDS * RECORD_NUMBERS;
-
-/// The file of a lens begins with the beam: 4 bytes of length and kind, then origin, direction and index. The recipe stands behind.
+/// The file of a lens begins with the beam: 4 bytes of length and kind, then origin, direction and index. The recipe
+/// stands behind.
 const BEAM_BYTES: usize = 60;
+
+/// Where a channel's numbers begin: behind turn, recipe and counts.
+const NUMBERS_AT: usize = 8 * (2 + pilingrue::COUNTS);
+
+/// No trace takes more scans.
+const ALL: usize = MOST_RECORDS * STEPS_BICONIC as usize;
 
 const BLANK_RECORD: [f64; RECORD_NUMBERS] = [0.0; RECORD_NUMBERS];
 
@@ -31,11 +40,16 @@ const MEANING: [&str; 13] = [
     "state does not fit",
 ];
 
-struct Station<'a> {
-    recipe: &'a [u8],
-    live: Trace<'a>,
-    unbroken: Trace<'a>,
+struct Station {
+    recipe: Vec<u8>,
+    beam: Beam,
+    steps: u16,
     surfaces: usize,
+    slots: Slots,
+    live: Channel,
+    unbroken: Channel,
+    /// What the last call left, so what has to come back with the power.
+    last: Channel,
     broken: bool,
 }
 
@@ -65,7 +79,7 @@ fn number_of(answer: Result<(), Verdict>) -> u64 {
     answer.map_or_else(|refused| refused.number, |()| ACCEPTED)
 }
 
-impl<'a> Station<'a> {
+impl Station {
     fn promise(&mut self, holds: bool, what: &str) {
         if !holds {
             println!("NOT KEPT: {what}");
@@ -73,32 +87,63 @@ impl<'a> Station<'a> {
         }
     }
 
-    /// After n steps those records are finished whose steps, added up from the first, are at most n. They are the
-    /// unbroken trace's, and all else is blank, to the buffer's end.
-    fn as_unbroken(&self, n: u64) -> bool {
-        let shown = self.live.buffer().chunks_exact(RECORD_NUMBERS);
-        let whole = self.unbroken.buffer().chunks_exact(RECORD_NUMBERS);
-        let mut steps = 0.0;
+    fn beam_at(&self, x: f64) -> Beam {
+        let [_, y, z] = self.beam.origin;
+        Beam { origin: [x, y, z], ..self.beam }
+    }
+
+    fn begin(&mut self, x: f64) -> u64 {
+        let beam = self.beam_at(x);
+        self.live.recipe = checksum(&self.recipe);
+        number_of(self.live.trace(&self.recipe).start(&beam))
+    }
+
+    fn go_on(&mut self) -> u64 {
+        number_of(self.live.trace(&self.recipe).resume(self.steps))
+    }
+
+    /// What follows each call. A verdict other than 1 means: stop, show nothing, start anew.
+    fn heed(&mut self, number: u64) {
+        if number == ACCEPTED {
+            self.slots.keep(&mut self.live);
+        } else {
+            self.slots.stop(&mut self.live);
+        }
+    }
+
+    fn trace_unbroken(&mut self, x: f64) -> Result<(), Verdict> {
+        let beam = self.beam_at(x);
+        self.unbroken.trace(&self.recipe).whole(&beam)
+    }
+
+    fn last_record(&self) -> Record {
+        Record::at(&self.live.buffer, self.surfaces - 1)
+    }
+
+    /// Those records are finished whose steps, added up from the first, are at most the trace's. They are the unbroken
+    /// trace's, and all else is blank, to the buffer's end.
+    fn as_unbroken(&self) -> bool {
+        let made = self.live.state.counts[COUNTS_STEPS] as f64;
+        let shown = self.live.buffer.chunks_exact(RECORD_NUMBERS);
+        let whole = self.unbroken.buffer.chunks_exact(RECORD_NUMBERS);
+        let mut sum = 0.0;
         shown.zip(whole).all(|(shown, whole)| {
-            steps += whole[RECORD_STEPS];
-            same_bits(shown, if steps <= n as f64 { whole } else { &BLANK_RECORD })
+            sum += whole[RECORD_STEPS];
+            same_bits(shown, if sum <= made { whole } else { &BLANK_RECORD })
         })
     }
 
     fn ends_as_unbroken(&self) -> bool {
-        let (live, unbroken) = (self.live.state(), self.unbroken.state());
-        live.counts == unbroken.counts
-            && same_bits(&live.numbers, &unbroken.numbers)
-            && same_bits(self.live.buffer(), self.unbroken.buffer())
+        let (live, unbroken) = (&self.live, &self.unbroken);
+        live.state.counts == unbroken.state.counts
+            && same_bits(&live.state.numbers, &unbroken.state.numbers)
+            && same_bits(&live.buffer, &unbroken.buffer)
     }
 
     /// What the operator sees: each surface, and what the cell does with the last.
-    fn show(&self, number: u64) {
-        if number != ACCEPTED {
-            print!(" is refused, {}", MEANING[number as usize]);
-        }
-        (0..self.surfaces).for_each(|i| show_record(self.live.record(i)));
-        let cell = match self.live.record(self.surfaces - 1) {
+    fn show(&self) {
+        (0..self.surfaces).for_each(|i| show_record(Record::at(&self.live.buffer, i)));
+        let cell = match self.last_record() {
             Record::Hit { .. } => "glues",
             Record::Blank => "reads blank",
             _ => "does not glue",
@@ -106,67 +151,224 @@ impl<'a> Station<'a> {
         println!(" | the cell {cell}");
     }
 
-    fn start(&mut self, lens: &str, beam: &Beam, expected: u64) {
-        let number = number_of(self.live.start(beam));
-        let _ = self.unbroken.whole(beam);
-        print!("\n{lens}\nstart");
-        self.show(number);
-        self.promise(number == expected, "what a start answers");
-        self.promise(self.as_unbroken(0), "a start leaves nothing of the lens before");
+    /// The answer to a call, after the station heeded it.
+    fn answered(&mut self, number: u64, expected: u64) {
+        if number != ACCEPTED {
+            print!(" is refused, {}", MEANING[number as usize]);
+        }
+        self.show();
+        self.promise(number == expected, "what a call answers");
+        self.promise(self.as_unbroken(), "a record is the unbroken trace's or blank");
+        self.last = self.live.clone();
     }
 
-    /// From one scan to another, or to the trace's end or a refusal.
-    fn scans(&mut self, from: u32, to: u32, steps: u16, expected: u64) {
+    fn start(&mut self, x: f64, expected: u64) {
+        let number = self.begin(x);
+        let blank = same_bits(&self.live.buffer, &Channel::blank().buffer);
+        self.promise(blank, "a start leaves nothing of the lens before");
+        self.heed(number);
+        let _ = self.trace_unbroken(x);
+        print!("start");
+        self.answered(number, expected);
+    }
+
+    /// From one scan to another, or to a refusal or the trace's end.
+    fn scans(&mut self, from: usize, to: usize, expected: u64) {
         for n in from..=to {
-            let number = number_of(self.live.resume(steps));
+            let number = self.go_on();
+            let refused = number != ACCEPTED;
+            self.promise(!refused || self.live.bytes() == self.last.bytes(), "a refused scan writes nothing");
+            self.heed(number);
             print!("scan {n}");
-            self.show(number);
-            self.promise(number == expected, "what a scan answers");
-            let made = self.live.state().counts[COUNTS_STEPS];
-            self.promise(self.as_unbroken(made), "a record is the unbroken trace's or blank");
-            if number != ACCEPTED {
+            self.answered(number, expected);
+            if refused {
                 return;
             }
-            if self.live.outcome() != RUNNING {
+            if self.live.state.counts[COUNTS_OUTCOME] != RUNNING {
                 self.promise(self.ends_as_unbroken(), "a trace ends as the unbroken one");
                 return;
             }
         }
+        self.promise(to < ALL, "scans come to an end");
     }
 
-    fn power_cycle(&mut self, memory: &'a mut [f64]) {
-        memory.copy_from_slice(self.live.buffer());
-        self.live = Trace::restored(self.recipe, memory, self.live.state());
-        println!("the power fails, and comes back");
+    /// The power fails outside a call.
+    fn lose_live(&mut self) {
+        self.live = Channel::of(&[0xA5; CHANNEL_BYTES]);
     }
 
-    fn work(&mut self, beam: &Beam, steps: u16, memory: &'a mut [f64]) {
-        self.start("Lens 1: the beam is there.", beam, ACCEPTED);
-        self.scans(1, u32::MAX, steps, ACCEPTED);
+    /// The power fails inside a call: the state is torn, with the counts of after it and the numbers of before.
+    fn tear_live(&mut self) {
+        self.go_on();
+        self.live.state.numbers = self.last.state.numbers;
+    }
 
-        let mut lost = *beam;
-        lost.origin[0] = f64::NAN;
-        let title = "Lens 2: the beam is lost, and the sensor gives no number. The channel had lens 1.";
-        self.start(title, &lost, BAD_PARAMETER);
-        self.scans(1, 1, steps, STATE_DOES_NOT_FIT);
+    /// The power fails, and one byte of the newest copy is not what was written.
+    fn spoil_copy(&mut self, at: usize) {
+        self.slots.of_turn(self.live.turn)[at] ^= 0xFF;
+        self.lose_live();
+    }
 
-        self.start("Lens 3: the beam is back, and the power fails in the middle.", beam, ACCEPTED);
-        self.scans(1, 2, steps, ACCEPTED);
-        self.power_cycle(memory);
-        self.scans(3, u32::MAX, steps, ACCEPTED);
+    /// The power fails in a copy: the byte that was under way is spoiled, and behind it stands what was there.
+    fn cut_copy(&mut self, was: &[u8], at: usize) {
+        self.slots.of_turn(self.live.turn)[at + 1..].copy_from_slice(&was[at + 1..]);
+        self.spoil_copy(at);
+    }
 
-        lost.origin[0] = beam.origin[0] + 40.0;
-        self.start("Lens 4: the beam is knocked 40 mm aside. The channel had lens 3.", &lost, ACCEPTED);
-        self.scans(1, u32::MAX, steps, ACCEPTED);
-        let hit = matches!(self.live.record(self.surfaces - 1), Record::Hit { .. });
-        self.promise(hit == (self.unbroken.outcome() == DONE), "no hit without a beam");
+    fn come_back(&mut self, expected: Restored) {
+        let found = self.slots.restore(&mut self.live, checksum(&self.recipe));
+        self.promise(found == expected, "what comes back with the power");
+        let due = if expected == Restored::Last { self.last.bytes() } else { vec![0; CHANNEL_BYTES] };
+        let what = "the power brings back what the last accepted call left, or nothing";
+        self.promise(self.live.bytes() == due, what);
+        self.last = self.live.clone();
+    }
+
+    fn power_cycle(&mut self, failed: &str, expected: Restored) {
+        let but = match expected {
+            Restored::Last => "",
+            Restored::NoWholeCopy => ": no copy is whole",
+            Restored::AnotherRecipe => ": the recipe is another",
+        };
+        self.come_back(expected);
+        print!("{failed}, and comes back{but}");
+        self.show();
+    }
+
+    /// Another number in the recipe, or another kind; the same flip puts it back.
+    fn flip_recipe(&mut self, at: usize, bits: u8) {
+        self.recipe[at] ^= bits;
+    }
+
+    fn last_place(&self) -> usize {
+        let (mut at, mut next) = (0, 0);
+        while next < self.recipe.len() {
+            at = next;
+            next += 2 + usize::from(u16::from_le_bytes([self.recipe[at], self.recipe[at + 1]]));
+        }
+        at
+    }
+
+    /// The copies of the lens before go first: they must not come back once the next lens is in the holder.
+    fn change_lens(&mut self, title: &str) {
+        self.slots.forget();
+        println!("\n{title}");
+    }
+
+    fn beam_is_there(&mut self, x: f64) {
+        self.change_lens("Lens 1: the beam is there.");
+        self.start(x, ACCEPTED);
+        self.scans(1, ALL, ACCEPTED);
+    }
+
+    fn beam_is_lost(&mut self) {
+        self.change_lens("Lens 2: the beam is lost, and the sensor gives no number. The channel had lens 1.");
+        self.start(f64::NAN, BAD_PARAMETER);
+        self.scans(1, ALL, STATE_DOES_NOT_FIT);
+        self.lose_live();
+        self.power_cycle("the power fails", Restored::NoWholeCopy);
+    }
+
+    fn power_fails_at_calls(&mut self, x: f64) {
+        self.change_lens("Lens 3: the power fails between two calls, then inside one.");
+        self.start(x, ACCEPTED);
+        self.lose_live();
+        self.come_back(Restored::Last);
+        self.scans(1, 1, ACCEPTED);
+        self.lose_live();
+        self.power_cycle("the power fails", Restored::Last);
+        self.scans(2, 2, ACCEPTED);
+        self.tear_live();
+        self.power_cycle("the power fails inside scan 3", Restored::Last);
+        self.scans(3, ALL, ACCEPTED);
+    }
+
+    fn scan_unseen(&mut self) {
+        let number = self.go_on();
+        self.heed(number);
+    }
+
+    /// The copy of a scan is cut or spoiled at several bytes, and the scan before it comes back each time.
+    fn spoil_copies(&mut self, was: &[u8]) {
+        for at in [0, 1, NUMBERS_AT, SLOT_BYTES / 2, SLOT_BYTES - 1] {
+            self.scan_unseen();
+            self.cut_copy(was, at);
+            self.come_back(Restored::Last);
+            self.scan_unseen();
+            self.spoil_copy(at);
+            self.come_back(Restored::Last);
+        }
+    }
+
+    fn power_fails_in_copies(&mut self, x: f64) {
+        self.change_lens("Lens 4: the power fails in a copy, of the start and of a scan. The slots had lens 3.");
+        self.start(x, ACCEPTED);
+        self.cut_copy(&[0; SLOT_BYTES], SLOT_BYTES / 2);
+        self.power_cycle("the power fails in the copy of the start", Restored::NoWholeCopy);
+        self.start(x, ACCEPTED);
+        self.scans(1, 1, ACCEPTED);
+        let was = self.slots.of_turn(self.live.turn + 1).to_vec();
+        self.spoil_copies(&was);
+        self.scan_unseen();
+        self.cut_copy(&was, SLOT_BYTES / 2);
+        self.power_cycle("the power fails in the copy of scan 2", Restored::Last);
+        self.scans(2, ALL, ACCEPTED);
+    }
+
+    fn recipe_is_exchanged(&mut self, x: f64) {
+        let at = self.recipe.len() - 2; // in the last number, so in a semi-diameter where that is last
+        self.change_lens("Lens 5: while the power is off, the recipe is exchanged for one with another last number.");
+        self.start(x, ACCEPTED);
+        self.scans(1, 1, ACCEPTED);
+        self.lose_live();
+        self.flip_recipe(at, 8);
+        self.power_cycle("the power fails", Restored::AnotherRecipe);
+        self.start(x, ACCEPTED);
+        self.scans(1, ALL, ACCEPTED);
+        self.flip_recipe(at, 8);
+        self.scan_unseen(); // with a recipe that is not the trace's: its copy still has the checksum of the other
+        self.lose_live();
+        self.come_back(Restored::AnotherRecipe);
+    }
+
+    fn recipe_goes_bad(&mut self, x: f64) {
+        let at = self.last_place() + 2;
+        self.change_lens("Lens 6: the recipe's memory goes bad between two scans, in the kind of the last surface.");
+        self.start(x, ACCEPTED);
+        self.scans(1, 1, ACCEPTED);
+        self.flip_recipe(at, 255);
+        self.scans(2, ALL, MALFORMED);
+        self.flip_recipe(at, 255);
+        self.lose_live();
+        self.power_cycle("the recipe is loaded again, the power fails", Restored::NoWholeCopy);
+        self.start(x, ACCEPTED);
+        self.scans(1, ALL, ACCEPTED);
+    }
+
+    fn beam_is_knocked_aside(&mut self, x: f64) {
+        self.change_lens("Lens 7: the beam is knocked 40 mm aside. The channel had lens 6.");
+        self.start(x + 40.0, ACCEPTED);
+        self.scans(1, ALL, ACCEPTED);
+        let hit = matches!(self.last_record(), Record::Hit { .. });
+        self.promise(hit == (self.unbroken.state.counts[COUNTS_OUTCOME] == DONE), "no hit without a beam");
+    }
+
+    fn work(&mut self, x: f64) {
+        self.beam_is_there(x);
+        self.beam_is_lost();
+        self.power_fails_at_calls(x);
+        self.power_fails_in_copies(x);
+        self.recipe_is_exchanged(x);
+        self.recipe_goes_bad(x);
+        self.beam_is_knocked_aside(x);
     }
 
     /// A new lens is tried once as a whole.
-    fn suits(&mut self, beam: &Beam) -> bool {
-        let answer = self.unbroken.whole(beam);
-        self.surfaces = self.unbroken.state().counts[COUNTS_SURFACE] as usize;
-        let (number, place) = answer.map_or_else(|v| (v.number, v.place), |()| (self.unbroken.outcome(), 0));
+    fn suits(&mut self, x: f64) -> bool {
+        let answer = self.trace_unbroken(x);
+        let counts = self.unbroken.state.counts;
+        self.surfaces = counts[COUNTS_SURFACE] as usize;
+        let (number, place) = answer.map_or_else(|v| (v.number, v.place), |()| (counts[COUNTS_OUTCOME], 0));
         if number != DONE {
             eprintln!("station: {}, place {place}", MEANING[number as usize]);
         }
@@ -191,20 +393,16 @@ fn main() -> ExitCode {
         eprintln!("usage: station LENS [STEPS]");
         return ExitCode::from(2);
     };
-    let [mut first, mut second, mut third] = [(); 3].map(|()| vec![0.0; ROOM]);
-    let mut station = Station {
-        recipe: &recipe,
-        live: Trace::new(&recipe, &mut first),
-        unbroken: Trace::new(&recipe, &mut second),
-        surfaces: 0,
-        broken: false,
-    };
+    let [live, unbroken, last] = [(); 3].map(|()| Channel::blank());
+    let slots = Slots::new();
+    let mut station = Station { recipe, beam, steps, surfaces: 0, slots, live, unbroken, last, broken: false };
+    let x = beam.origin[0];
     station.promise(pilingrue::version() == VERSION, "header and archive have one version");
-    if !station.suits(&beam) {
+    if !station.suits(x) {
         return ExitCode::from(2);
     }
     println!("interface {VERSION}, surfaces {}, steps a scan {steps}", station.surfaces);
-    station.work(&beam, steps, &mut third);
+    station.work(x);
     println!("\n{}", if station.broken { "A PROMISE WAS NOT KEPT" } else { "every promise was kept" });
     ExitCode::from(station.broken as u8)
 }

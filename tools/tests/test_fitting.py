@@ -28,6 +28,13 @@ BEYOND = (
     "BFF0000000000000 3FF0000000000000 0000000000000000 0000000000000000 3FF0000000000000\nend 1 1 BCD0000000000000\n",
 )
 
+NEEDLE = (
+    "ray x=0x1.6849b86a12b99p-47 y=0 z=1e-9 dx=1e6 dy=0 dz=1e6 index=1\n"
+    "even vertex=0 index=1 c=1e10 k=-1 semi=10\n",
+    "0 1 1 BCD203AF9EC0A690 BE112E00A5B42E88 0000000000000000 3C22725E00000000 BFEFD75806E3049C 0000000000000000 "
+    "BFB97923EA9E1C7D 3FE6A09E667F3BCD 0000000000000000 3FE6A09E667F3BCD 3FF0000000000000\nend 1 1 BCD203AF9EC0A690\n",
+)
+
 
 def prescription(text):
     return read_text(text).prescription
@@ -200,7 +207,8 @@ class Held(Refusing, unittest.TestCase):
             ("semi=5", "semi=4", None),
             ("semi=5", "semi=3.9", "the point lies 4 mm from the axis, and its semi-diameter is 3.9 mm"),
             ("a1=0.125", "a1=0.25", "the point lies 2 mm from the surface"),
-            ("vertex=0", "vertex=1e-10", "the point lies 1e-10 mm from the surface"),
+            ("vertex=0", "vertex=9e-12", None),
+            ("vertex=0", "vertex=2e-11", "the point lies 2e-11 mm from the surface"),
             ("a1=0.125", "a1=0 a2=0.0078125", "the normal is not the surface's at the point"),
             ("even vertex=0 index=1", "even vertex=0 index=1.5", "the new direction is not what refraction gives"),
             ("even vertex", "mirror even vertex", "the new direction is not what reflection gives"),
@@ -213,6 +221,14 @@ class Held(Refusing, unittest.TestCase):
             self.assertIsNone(told)
         else:
             self.assert_told(told, 1, f"surface 0: {reason}")
+
+    def test_a_small_move_may_leave_a_residual(self):
+        """With a direction of length 16, and on a surface that is steep and sharp as a needle."""
+        self.assertIsNone(refusal(NEEDLE[1], prescription(NEEDLE[0])))
+        recipe, listing = EVEN[0].replace("dz=1", "dz=16"), EVEN[1].replace(pattern(3.0), pattern(3 / 16))
+        for vertex, reason in ((0, None), (9e-10, None), (2e-9, "the point lies 2e-09 mm from the surface")):
+            changed = prescription(recipe.replace("vertex=0", f"vertex={vertex}"))
+            self.assert_reason(refusal(listing, changed), reason)
 
     def test_a_small_move_may_end_beyond_the_edge(self):
         """Of an even asphere alone."""

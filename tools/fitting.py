@@ -13,7 +13,7 @@ from table import DONE, MALFORMED, MISSED, NOT_FINITE, VIGNETTED, told
 # change of the slope on the way.
 LANDED, MOVED = 1e-11, 1e-12
 STEEP = 0.75 * LANDED / MOVED
-# what is left behind such a move: mm, and parts of the largest length
+# what rounding leaves behind such a move: mm, and parts of the largest length
 NEAR, NEAR_PART = 1e-9, 1e-12
 
 

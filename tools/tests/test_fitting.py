@@ -35,6 +35,13 @@ NEEDLE = (
     "BFB97923EA9E1C7D 3FE6A09E667F3BCD 0000000000000000 3FE6A09E667F3BCD 3FF0000000000000\nend 1 1 BCD203AF9EC0A690\n",
 )
 
+RIM = (
+    "ray x=116358.18618037231 y=0 z=116060.48421728557 dx=6.704738386858156 dy=0 dz=0.018868208915626905 index=1\n"
+    "biconic vertex=0 index=1 cx=8.594152485154436e-06 kx=0 cy=8.594152485154436e-06 ky=0 semi=232716.37354059122\n",
+    "0 1 7 BFAD098F5E10E084 40FC685CE517AAF9 0000000000000000 40FC55C7BAF88F8C 3FEFFFF922D34765 0000000000000000 "
+    "BF64F595C6811AF3 3FEFFFF7B2237117 0000000000000000 3F670DB2D9AE8746 0000000000000000\nend 1 7 BFAD098F5E10E084\n",
+)
+
 
 def prescription(text):
     return read_text(text).prescription
@@ -223,8 +230,9 @@ class Held(Refusing, unittest.TestCase):
             self.assert_told(told, 1, f"surface 0: {reason}")
 
     def test_a_small_move_may_leave_a_residual(self):
-        """With a direction of length 16, and on a surface that is steep and sharp as a needle."""
-        self.assertIsNone(refusal(NEEDLE[1], prescription(NEEDLE[0])))
+        """At a needle, with a direction of length 1e6; at the rim of a radius of 116 m; and with one of length 16."""
+        for recipe, listing in (NEEDLE, RIM):
+            self.assertIsNone(refusal(listing, prescription(recipe)))
         recipe, listing = EVEN[0].replace("dz=1", "dz=16"), EVEN[1].replace(pattern(3.0), pattern(3 / 16))
         for vertex, reason in ((0, None), (9e-10, None), (2e-9, "the point lies 2e-09 mm from the surface")):
             changed = prescription(recipe.replace("vertex=0", f"vertex={vertex}"))

@@ -18,6 +18,7 @@
 #include <time.h>
 #include <ucontext.h>
 
+#include "lens.h"
 #include "pilingrue.h"
 
 /* A number's role in a record says how an ordinary one is drawn: Vertex, Index, Curvature, K, Semi-diameter, Radius, A
@@ -39,9 +40,7 @@ enum {
     SLOTS = 2 * KIND_COUNT, /* each kind refracting, then as a mirror */
     COEFFICIENTS = 8,
     MOST_NUMBERS = 13,
-    ROOM = PILINGRUE_MOST_RECORDS * PILINGRUE_RECORD_NUMBERS,
-    BEAM = 7,
-    BEAM_BYTES = 4 + 8 * BEAM
+    ROOM = PILINGRUE_MOST_ROOM
 };
 
 static const struct kind *kind_of(int slot) { return &KINDS[slot / 2]; }
@@ -529,18 +528,14 @@ static void count_next(void) {
 
 /* Lenses. */
 
-/* A lens's recipe, and the beam before it. What is not one is refused by the start. */
-static int load(const char *path, struct trace *t) {
-    static uint8_t file[BEAM_BYTES + PILINGRUE_MOST_RECIPE_BYTES];
+/* A trace of a lens, started. What is no lens is refused by the start. */
+static int start_lens(const char *path, struct trace *t) {
+    static lens l;
+    const double *b = l.beam;
     pilingrue_verdict v;
-    double b[BEAM];
-    FILE *f = fopen(path, "rb");
-    size_t size = f ? fread(file, 1, sizeof file, f) : 0;
-    if (f) fclose(f);
-    if (size < BEAM_BYTES) return 0;
-    memcpy(b, file + 4, sizeof b);
-    t->bytes = size - BEAM_BYTES;
-    memcpy(t->recipe, file + BEAM_BYTES, t->bytes);
+    if (!load(&l, path) || l.recipe_bytes > sizeof t->recipe) return 0;
+    t->bytes = l.recipe_bytes;
+    memcpy(t->recipe, l.recipe, t->bytes);
     v = pilingrue_start(t->recipe, t->bytes, b[0], b[1], b[2], b[3], b[4], b[5], b[6], t->buffer, ROOM, t->counts,
                         t->numbers);
     return v.number == PILINGRUE_ACCEPTED;
@@ -551,7 +546,7 @@ static int hold_sample(const char *path) {
     static struct trace t, together;
     uint64_t sum = 0, rest;
     uint16_t steps = 0;
-    if (!load(path, &t) || !load(path, &together)) return 0;
+    if (!start_lens(path, &t) || !start_lens(path, &together)) return 0;
     rest = cost.scan + checks(&t);
     while (t.counts[PILINGRUE_COUNTS_OUTCOME] == PILINGRUE_RUNNING) {
         uint64_t step;
@@ -671,10 +666,10 @@ static uint64_t dearest_in(const struct trace *t) {
 
 static int whole_steps(double steps) { return (int)fmin(fmax(steps, 0), UINT16_MAX); }
 
-static int print_allowance(const char *path, const char *lens, double time) {
+static int print_allowance(const char *path, const char *file, double time) {
     static struct trace t;
     double rate, step, rest;
-    if (!load(lens, &t) || t.bytes == 0 || !(time > 0)) return fprintf(stderr, "steps: no lens, or no time\n"), 2;
+    if (!start_lens(file, &t) || t.bytes == 0 || !(time > 0)) return fprintf(stderr, "steps: no lens, or no time\n"), 2;
     if (!read_dearest(path, time_step)) return 2;
     rate = least_rate(), step = (double)(dearest_in(&t) + next_cost), rest = (double)(cost.scan + checks(&t));
     printf("%9.0f  instructions in %g microseconds, at %.0f a microsecond\n", time * rate, time, rate);

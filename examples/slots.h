@@ -4,7 +4,7 @@
 
      keep      after each accepted call has returned, never during one
      stop      after a refused call: nothing is shown, and nothing comes back
-     forget    before the next lens is in the holder: the lens before it does not come back
+     forget    before each start, and before the next lens is in the holder: no trace before it comes back
      restore   when the power is back: the newest copy that is whole, or a stop */
 #ifndef SLOTS_H
 #define SLOTS_H

@@ -39,9 +39,11 @@ static void promise(int holds, const char *what) {
 
 static uint64_t recipe_checksum(void) { return checksum(loaded.recipe, loaded.recipe_bytes); }
 
+/* Anew: of the trace before nothing must come back, even if the power fails before this one is kept. */
 static pilingrue_verdict begin(double x) {
     const double *b = loaded.beam;
     channel *c = &live;
+    forget(slots);
     c->recipe = recipe_checksum();
     return pilingrue_start(loaded.recipe, loaded.recipe_bytes, x, b[1], b[2], b[3], b[4], b[5], b[6], c->buffer,
                            PILINGRUE_MOST_ROOM, c->counts, c->numbers);
@@ -248,7 +250,11 @@ static void spoil_copies(const slot *was) {
 
 static void power_fails_in_copies(double x) {
     static slot was;
-    change_lens("Lens 4: the power fails in a copy, of the start and of a scan. The slots had lens 3.");
+    change_lens("Lens 4: the power fails before the start; then in the copy of a start anew, and in that of a scan.");
+    lose_live();
+    power_cycle("the power fails", NO_WHOLE_COPY);
+    start(x, PILINGRUE_ACCEPTED);
+    scans(1, 1, PILINGRUE_ACCEPTED);
     start(x, PILINGRUE_ACCEPTED);
     cut_copy(&EMPTY, sizeof(slot) / 2);
     power_cycle("the power fails in the copy of the start", NO_WHOLE_COPY);

@@ -48,7 +48,7 @@ extern "C" {
 #define PILINGRUE_HIT 1                    /* status: the beam hit the surface and goes on */
 #define PILINGRUE_DONE 1                   /* outcome: the beam hit all surfaces */
 #define PILINGRUE_ACCEPTED 1               /* answer: the call was accepted. The outcome says where the beam went */
-#define PILINGRUE_BAD_PARAMETER 2          /* a number is not finite, or the semi-diameter of no conic is negative */
+#define PILINGRUE_BAD_PARAMETER 2          /* a number is not finite, or a negative semi-diameter but for a conic's */
 #define PILINGRUE_NEGATIVE_SEMI_DIAMETER 3 /* negative semi-diameter of a conic */
 #define PILINGRUE_SINGULAR 4               /* no direction or slope can be computed, or an index is not above 0 */
 #define PILINGRUE_OUTSIDE_DOMAIN 5         /* outside the surface's domain */
@@ -88,10 +88,10 @@ typedef struct pilingrue_verdict {
    A trace can go on after a power cycle as if nothing had been, from a copy of both arrays and the buffer. Take it
    only after an accepted call has returned: a power failure inside a call leaves them torn, partly of before and
    partly of after, and a torn pair of arrays can pass 12. Write copies into two slots by turns, each with a count and
-   a checksum, so that a failure in the middle of a copy leaves the other; and forget both after a refusal and before
-   the next lens is in the holder. A state does not know its recipe either, and goes on with any other of the same
-   shapes: keep a checksum of the recipe beside it, and start anew if another recipe is there. examples/slots.h has
-   all of this. */
+   a checksum, so that a failure in the middle of a copy leaves the other; and forget both before each start, after a
+   refusal, and before the next lens is in the holder. A state does not know its recipe either, and goes on with any
+   other of the same shapes: keep a checksum of the recipe beside it, and start anew if another recipe is there.
+   examples/slots.h has all of this. */
 #define PILINGRUE_COUNTS 5
 #define PILINGRUE_COUNTS_SURFACE 0 /* number of the surface that the beam goes to, from 0; their count once done */
 #define PILINGRUE_COUNTS_PLACE 1   /* byte place of its record in the recipe; the recipe's length once done */
@@ -118,7 +118,7 @@ typedef struct pilingrue_verdict {
    c, cx and cy are curvatures in 1/mm, 0 for a plane; only rx, of a toroid's circle, is a radius, in mm. k, kx and ky
    are conic constants. Coefficient i of an even asphere, from 1, multiplies r^(2i). A cylinder is a biconic with cx or
    cy 0, and no toroid with rx 0. Kind + 256 is the same surface as a mirror: its index is checked and not used. An
-   empty recipe is done at once.
+   empty recipe is done at once, and a record behind PILINGRUE_MOST_RECORDS others is refused with 10 at its place.
 
    The files in samples/, and what tools/recipe makes of a text with a ray, are a program's: they begin with 60 bytes
    of the ray, which no call here takes. The recipe is what stands behind. */
@@ -194,7 +194,8 @@ pilingrue_verdict pilingrue_whole(const uint8_t *recipe, size_t recipe_bytes, do
      and an unmasked invalid or overflow traps inside the call, also in a start that would refuse the number;
    - another rounding than to nearest, or subnormal numbers taken as zero (FTZ, DAZ).
 
-   Masks, rounding and subnormal numbers are right as C and the processor have them at a program's start. */
+   Masks, rounding and subnormal numbers are right as C and the processor have them at a program's start, but not where
+   it is linked with -ffast-math or the like, which takes subnormal numbers as zero. */
 
 #ifdef __cplusplus
 }

@@ -28,6 +28,12 @@ class Record(NamedTuple):
     def is_hit(self):
         return self.status == HIT
 
+    def slots(self):
+        """Those from slot 1 on that it tells."""
+        if self.is_hit():
+            return [self.t, *self.point, *self.normal, *self.direction, float(self.front)]
+        return [self.r, self.limit] if self.status == VIGNETTED else []
+
 
 class Listing(NamedTuple):
     """Records and how they end: outcome, steps and path. Or, without records, why and at which byte the start was refused."""

@@ -1,5 +1,9 @@
-"""Sag, normal, a conic's crossing, reflection and refraction, operation by operation as in `surfaces`. None refuses."""
+"""What a beam does at a surface, each operation as in `surfaces` and `trace`, to refuse what differs from it."""
 import math
+from typing import NamedTuple, Tuple
+
+from records import SHAPES
+from table import HIT
 
 FLAT = 1e-15
 TINY = 1e-30
@@ -7,29 +11,53 @@ BEHIND = -1e-7
 BACKWARDS = (0.0, 0.0, -1.0)
 
 
-def sag(surface, x, y):
-    """How far behind the vertex the surface lies at x and y."""
-    return SAGS[surface.kind](surface.named(), surface.coefficients(), x, y)
+class Refusal(Exception):
+    """A number of document 01's table, and for a 7 r and the limit."""
+
+    def __init__(self, number, r=0.0, limit=0.0):
+        super().__init__(number)
+        self.number, self.slots = number, [r, limit, *[0.0] * 9]
 
 
-def normal(surface, point):
-    """The unit normal towards -z."""
-    return NORMALS[surface.kind](surface, point)
+class Beam(NamedTuple):
+    origin: Tuple[float, ...]
+    direction: Tuple[float, ...]
+    index: float
+    path: float = 0.0
+
+    def at(self, t):
+        return tuple(a + t * b for a, b in zip(self.origin, self.direction))
+
+    def behind(self, surface, t, point, direction):
+        """The beam that leaves a surface."""
+        return Beam(point, direction, self.index if surface.mirror else surface.index, self.path + t)
 
 
-def onward(surface, direction, facing, index):
-    """The new direction of a beam in a medium of this index, at a surface with this normal, if it has one."""
-    if facing is None:
-        return None
-    return reflected(direction, facing) if surface.mirror else refracted(direction, facing, index, surface.index)
+def leg(surface, beam):
+    """What a beam leaves at a surface: status, steps, and slots 1 to 11 of the record."""
+    begun = []
+    try:
+        t = crossing(surface, beam, begun)
+        point = beam.at(t)
+        facing = normal(surface, point)
+        direction = onward(surface, beam, facing)
+        refuse_if(not all_finite((t, *point, *facing, *direction, beam.path + t)), 9)
+    except Refusal as refusal:
+        return refusal.number, len(begun), refusal.slots
+    return HIT, len(begun), [t, *point, *facing, *direction, float(dot(beam.direction, facing) < 0)]
+
+
+def refuse_if(is_refused, number):
+    if is_refused:
+        raise Refusal(number)
+
+
+def all_finite(numbers):
+    return all(map(math.isfinite, numbers))
 
 
 def dot(a, b):
     return a[0] * b[0] + a[1] * b[1] + a[2] * b[2]
-
-
-def along(origin, direction, t):
-    return tuple(a + t * b for a, b in zip(origin, direction))
 
 
 def distance(x, y):
@@ -53,40 +81,83 @@ def over(vector, length):
     return tuple(x / length for x in vector)
 
 
-def edge_root(radicand):
-    """In every sag but the conic's, which takes no radicand below 0."""
-    return None if radicand < -1e-12 else root(at_least_0(radicand))
+def sag(surface, x, y):
+    """How far behind the vertex the surface lies at x and y."""
+    return SAGS[surface.kind](surface.named(), surface.coefficients(), x, y)
 
 
-def conic_sag(own, _, x, y):
-    c, k, r = own["c"], own["k"], distance(x, y)
-    if not math.isfinite(r):
-        return None
-    if abs(c) < FLAT or r < FLAT:
-        return 0.0
-    r2 = r * r
-    radicand = 1.0 - (1.0 + k) * c * c * r2
-    return None if radicand < 0 else c * r2 / (1.0 + root(radicand))
+def normal(surface, point):
+    """The unit normal towards -z."""
+    return NORMALS[surface.kind](surface, point)
 
 
-def on_sheet(surface, point):
-    """Whether a point of the quadric is on the sheet through the vertex."""
-    depth = sag(surface, *point[:2])
-    return depth is not None and abs(point[2] - surface.vertex - depth) < 1e-4
+def crossing(surface, beam, begun):
+    """How far the beam goes to the surface, in lengths of its direction. `begun` gets the t of each pass."""
+    if surface.kind == "conic":
+        begun.append(0.0)
+        return landed(surface, beam, conic_crossing(surface, beam))
+    t, is_there = vertex_plane(surface, beam), False
+    while not is_there:
+        refuse_if(len(begun) == SHAPES[surface.kind].steps, 6)
+        begun.append(t)
+        refuse_if(abs(beam.direction[2]) < FLAT, 6)
+        t, is_there = passed(surface, beam, t)
+    return t
 
 
-def conic_crossing(surface, origin, direction):
-    """How far a beam goes to a conic, in lengths of its direction."""
-    own, (dx, dy, dz) = surface.named(), direction
-    c, k1, px, py, pz = own["c"], 1.0 + own["k"], origin[0], origin[1], origin[2] - surface.vertex
+def landed(surface, beam, t):
+    """The same t, unless r is beyond the semi-diameter."""
+    r, semi = distance(*beam.at(t)[:2]), surface.named()["semi"]
+    if r > semi:
+        raise Refusal(7, r, semi)
+    return t
+
+
+def vertex_plane(surface, beam):
+    dz = beam.direction[2]
+    t = (surface.vertex - beam.origin[2]) / dz if dz else math.nan
+    return 0.0 if t < 0 else t
+
+
+def passed(surface, beam, t):
+    """Where one of Newton's passes comes to, and whether it ends there."""
+    x, y, z = beam.at(t)
+    refuse_if(distance(x, y) > surface.named()["semi"] * 1.5, 6)
+    residual = z - surface.vertex - or_missed(sag, surface, x, y)
+    if abs(residual) < 1e-11:
+        return landed(surface, beam, t), True
+    (dx, dy, dz), (along_x, along_y) = beam.direction, or_missed(slopes, surface, x, y)
+    slope = dz - (along_x * dx + along_y * dy)
+    refuse_if(abs(slope) < FLAT, 4)
+    move = residual / slope
+    if not abs(move) < 1e-12:
+        return t - move, False
+    # an even asphere's r is not asked for here
+    return t - move if surface.kind == "even" else landed(surface, beam, t - move), True
+
+
+def or_missed(function, surface, x, y):
+    """Where it is refused, a pass has missed."""
+    try:
+        return function(surface, x, y)
+    except Refusal:
+        raise Refusal(6) from None
+
+
+def conic_crossing(surface, beam):
+    own, (dx, dy, dz) = surface.named(), beam.direction
+    c, k1, (px, py), pz = own["c"], 1.0 + own["k"], beam.origin[:2], beam.origin[2] - surface.vertex
     if abs(c) < FLAT:
-        t = None if abs(dz) < FLAT else -pz / dz
-        return None if t is None or t < BEHIND else at_least_0(t)
+        refuse_if(abs(dz) < FLAT, 6)
+        t = -pz / dz
+        refuse_if(t < BEHIND, 6)
+        return at_least_0(t)
     a = c * (dx * dx + dy * dy + k1 * dz * dz)
     b = 2.0 * (c * (px * dx + py * dy + k1 * pz * dz) - dz)
     e = c * (px * px + py * py + k1 * pz * pz) - 2.0 * pz
-    on = (t for t in candidates(a, b, e) if on_sheet(surface, along(origin, direction, t)))
-    return next(on, None)
+    t = next((t for t in candidates(a, b, e) if is_on_sheet(surface, beam.at(t))), None)
+    refuse_if(t is None, 6)
+    return t
 
 
 def candidates(a, b, c):
@@ -99,16 +170,42 @@ def candidates(a, b, c):
     return sorted(at_least_0(t) for t in roots if t > BEHIND)
 
 
+def is_on_sheet(surface, point):
+    """Whether a point of the quadric is on the sheet through the vertex."""
+    try:
+        return abs(point[2] - surface.vertex - sag(surface, *point[:2])) < 1e-4
+    except Refusal:
+        return False
+
+
+def conic_sag(own, _, x, y):
+    c, k, r = own["c"], own["k"], distance(x, y)
+    refuse_if(not math.isfinite(r), 4)
+    if abs(c) < FLAT or r < FLAT:
+        return 0.0
+    r2 = r * r
+    radicand = 1.0 - (1.0 + k) * c * c * r2
+    refuse_if(radicand < 0, 5)
+    return c * r2 / (1.0 + root(radicand))
+
+
 def conic_normal(surface, point):
     own, (x, y, z) = surface.named(), point
     c, k = own["c"], own["k"]
     if abs(c) < FLAT:
         return BACKWARDS
-    if 1.0 - (1.0 + k) * c * c * (x * x + y * y) < 0:
-        return None
+    refuse_if(not all_finite(point), 4)
+    refuse_if(1.0 - (1.0 + k) * c * c * (x * x + y * y) < 0, 5)
     gradient = c * x, c * y, (1.0 + k) * c * (z - surface.vertex) - 1.0
     squared = dot(gradient, gradient)
-    return None if squared < TINY or not math.isfinite(squared) else over(gradient, root(squared))
+    refuse_if(squared < TINY or not math.isfinite(squared), 4)
+    return over(gradient, root(squared))
+
+
+def edge_root(radicand):
+    """In every sag but the conic's, which takes no radicand below 0."""
+    refuse_if(radicand < -1e-12, 5)
+    return root(at_least_0(radicand))
 
 
 def base_root(c, k, r2):
@@ -117,10 +214,9 @@ def base_root(c, k, r2):
 
 def even_sag(own, coefficients, x, y):
     c, r = own["c"], distance(x, y)
+    refuse_if(not math.isfinite(r), 2)
     r2 = r * r
     s = base_root(c, own["k"], r2)
-    if not math.isfinite(r) or s is None:
-        return None
     powers, power = 0.0, r2
     for a in coefficients:
         powers, power = powers + a * power, power * r2
@@ -129,14 +225,20 @@ def even_sag(own, coefficients, x, y):
 
 def even_slope(own, coefficients, r):
     """Along r."""
+    refuse_if(not math.isfinite(r), 2)
     c, r2 = own["c"], r * r
     s = base_root(c, own["k"], r2)
-    if not math.isfinite(r) or s is None or s <= FLAT:
-        return None
+    refuse_if(s <= FLAT, 4)
     powers, power = 0.0, r
     for i, a in enumerate(coefficients):
         powers, power = powers + (2.0 * i + 2.0) * a * power, power * r2
     return (0.0 if abs(c) < FLAT else c * r / s) + powers
+
+
+def even_slopes(own, coefficients, x, y):
+    r = distance(x, y)
+    slope = even_slope(own, coefficients, r)
+    return (slope * (x / r), slope * (y / r)) if r > 1e-14 else (0.0, 0.0)
 
 
 def even_normal(surface, point):
@@ -145,8 +247,9 @@ def even_normal(surface, point):
     if r < FLAT:
         return BACKWARDS
     slope = even_slope(surface.named(), surface.coefficients(), r)
-    slopes = None if slope is None else (slope * (x / r), slope * (y / r))
-    return facing_of(*slopes) if slopes and math.isfinite(length_of(*slopes)) else None
+    dx, dy = slope * (x / r), slope * (y / r)
+    refuse_if(not math.isfinite(length_of(dx, dy)), 4)
+    return facing_of(dx, dy)
 
 
 def length_of(dx, dy):
@@ -168,16 +271,15 @@ def biconic_root(own, x, y):
 
 
 def biconic_sag(own, _, x, y):
-    s = biconic_root(own, x, y)
-    return None if s is None else numerator_of(own, x, y) / (1.0 + s)
+    refuse_if(not all_finite((x, y)), 2)
+    return numerator_of(own, x, y) / (1.0 + biconic_root(own, x, y))
 
 
-def biconic_slopes(own, x, y):
+def biconic_slopes(own, _, x, y):
     if abs(x) < FLAT and abs(y) < FLAT:
         return 0.0, 0.0
     s, numerator = biconic_root(own, x, y), numerator_of(own, x, y)
-    if s is None or s <= 1e-14:
-        return None
+    refuse_if(s <= 1e-14, 4)
     s1 = 1.0 + s
 
     def along_meridian(c, k, u):
@@ -189,47 +291,45 @@ def biconic_slopes(own, x, y):
 def toroid_circle(own, y):
     """The radius of the circle at y, which the base curve's sag shortens."""
     cy, ky = own["cy"], own["ky"]
-    s = edge_root(1.0 - (1.0 + ky) * cy * cy * (y * y))
-    return None if s is None else own["rx"] - cy * (y * y) / (1.0 + s)
+    return own["rx"] - cy * (y * y) / (1.0 + edge_root(1.0 - (1.0 + ky) * cy * cy * (y * y)))
 
 
 def toroid_sag(own, _, x, y):
     rx, radius = own["rx"], toroid_circle(own, y)
-    s = None if radius is None else edge_root(radius * radius - x * x)
-    return None if s is None else rx - sign(rx) * s
+    return rx - sign(rx) * edge_root(radius * radius - x * x)
 
 
-def toroid_slopes(own, x, y):
+def toroid_slopes(own, _, x, y):
     rx, cy, ky, radius = own["rx"], own["cy"], own["ky"], toroid_circle(own, y)
-    radicand = 0.0 if radius is None else radius * radius - x * x
-    if radicand <= 1e-14:
-        return None
+    radicand = radius * radius - x * x
+    refuse_if(radicand <= 1e-14, 5)
     s, base = root(radicand), root(at_least_0(1.0 - (1.0 + ky) * cy * cy * y * y))
     return sign(rx) * x / s, sign(rx) * (radius / s) * (cy * y / base if base > 1e-14 else 0.0)
 
 
-def normal_by(slopes):
-    def facing(surface, point):
-        both = slopes(surface.named(), *point[:2])
-        return None if both is None else facing_of(*both)
+def slopes(surface, x, y):
+    return SLOPES[surface.kind](surface.named(), surface.coefficients(), x, y)
 
-    return facing
+
+def normal_by_slopes(surface, point):
+    return facing_of(*slopes(surface, *point[:2]))
 
 
 SAGS = {"conic": conic_sag, "even": even_sag, "biconic": biconic_sag, "toroid": toroid_sag}
-NORMALS = {
-    "conic": conic_normal,
-    "even": even_normal,
-    "biconic": normal_by(biconic_slopes),
-    "toroid": normal_by(toroid_slopes),
-}
+SLOPES = {"even": even_slopes, "biconic": biconic_slopes, "toroid": toroid_slopes}
+NORMALS = {"conic": conic_normal, "even": even_normal, "biconic": normal_by_slopes, "toroid": normal_by_slopes}
+
+
+def onward(surface, beam, facing):
+    """The new direction, at a surface with this normal."""
+    if surface.mirror:
+        return reflected(beam.direction, facing)
+    return refracted(beam.direction, facing, beam.index, surface.index)
 
 
 def units(*vectors):
-    """The vectors over their lengths, if those are not too small and all is finite."""
     squares = [dot(a, a) for a in vectors]
-    if not all(math.isfinite(x) for a in vectors for x in a) or min(squares) < TINY:
-        return None
+    refuse_if(not all(map(all_finite, vectors)) or min(squares) < TINY, 4)
     return [over(a, root(square)) for a, square in zip(vectors, squares)]
 
 
@@ -238,10 +338,7 @@ def turned(vector):
 
 
 def reflected(direction, facing):
-    both = units(direction, facing)
-    if both is None:
-        return None
-    i, n = both
+    i, n = units(direction, facing)
     d = dot(i, n)
     d, n = (-d, turned(n)) if d > 0 else (d, n)
     w = 2.0 * d
@@ -249,15 +346,12 @@ def reflected(direction, facing):
 
 
 def refracted(direction, facing, before, behind):
-    both = units(direction, facing)
-    if both is None or before <= 0 or behind <= 0:
-        return None
-    i, n = both
+    refuse_if(before <= 0 or behind <= 0, 4)
+    i, n = units(direction, facing)
     d = -dot(i, n)
     d, n = (-d, turned(n)) if d < 0 else (d, n)
     cosine, eta = min(d, 1.0), before / behind
     k = 1.0 - eta * eta * at_least_0(1.0 - cosine * cosine)
-    if k < 0:
-        return None
+    refuse_if(k < 0, 8)
     w = eta * cosine - root(k)
     return tuple(eta * a + w * b for a, b in zip(i, n))

@@ -276,7 +276,7 @@ class Picture:
         for i, (surface, after) in enumerate(zip(self.surfaces, self.surfaces[1:])):
             index = index if surface.mirror else surface.index
             is_ahead = (after.vertex - surface.vertex) * ways[i + 1] > 0
-            if index != 1 and is_ahead and are_drawn[i] and are_drawn[i + 1]:
+            if index != 1 and math.isfinite(index) and is_ahead and are_drawn[i] and are_drawn[i + 1]:
                 yield i, index
 
     def ways(self):

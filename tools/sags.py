@@ -8,8 +8,11 @@ PIECES = 40
 
 def sag(surface, x, y):
     """How far behind the vertex the surface lies at x and y; None where it has no such point."""
-    z = optics.sag(surface, x, y)
-    return z if z is not None and math.isfinite(z) else None
+    try:
+        z = optics.sag(surface, x, y)
+    except optics.Refusal:
+        return None
+    return z if math.isfinite(z) else None
 
 
 def section(surface, across, height):

@@ -18,9 +18,7 @@ MEANINGS = {
 
 HIT = DONE = 1
 NOT_ENDED = 0
-MISSED = 6
 VIGNETTED = 7
-NOT_FINITE = 9
 MALFORMED = 10
 # what ends a trace at a surface, and what a start may answer instead of a trace
 ENDS = (2, 4, 5, 6, 7, 8, 9)

@@ -131,6 +131,12 @@ class Draw(unittest.TestCase):
         self.assertEqual((texts(root).count("0"), texts(root).count("1")), (2, 0))
         self.assertEqual(texts(drawn(PLANE))[2], "Section x = 0: y upwards, z to the right")
 
+    def test_an_index_that_is_no_number_is_no_glass(self):
+        for index in ("nan:7FF8000000000000", "inf"):
+            dark = PLANE.replace("index=2", f"index={index}")
+            back = "mirror conic vertex=9 index=1 c=0 k=0 semi=10\nconic vertex=3 index=1 c=0 k=0 semi=10\n"
+            self.assertNotIn("glass", texts(drawn(dark + back)))
+
     def test_titles(self):
         for title in ("a < b & c", "\0\x1b\udc80", "π"):
             self.assertIsNotNone(drawn(PLANE, title=title))

@@ -1,7 +1,7 @@
 import unittest
 
 from trying import CRATES, LISTINGS, NAMES, SAMPLES, Refusing
-from fitting import hold, is_held
+from fitting import hold
 from listing import BadListing, Listing, hit, read, refusal as refused_record
 from numerals import of_pattern, pattern
 from prescription import read as read_text
@@ -16,30 +16,17 @@ VIGNETTED = " ".join(["1 7 1", pattern(12.0), pattern(10.0), *[ZERO] * 9])
 END = f"end 1 1 {pattern(5.0)}"
 PLANE = "conic vertex=0 index=2 c=0 k=0 semi=10\n"
 RAY = "ray x=0 y=0 z=-5 dx=0 dy=0 dz=1 index=1\n"
-# document 01's even asphere, hit after 2 steps, and one whose last move was small, hit beyond its semi-diameter
-EVEN = (
-    "ray x=4 y=0 z=-1 dx=0 dy=0 dz=1 index=1\neven vertex=0 index=1 c=0 k=0 semi=5 a1=0.125\n",
+# document 01's even asphere, hit after 2 steps
+EVEN = "ray x=4 y=0 z=-1 dx=0 dy=0 dz=1 index=1\neven vertex=0 index=1 c=0 k=0 semi=5 a1=0.125\n"
+EVEN_LISTING = (
     "0 1 2 4008000000000000 4010000000000000 0000000000000000 4000000000000000 3FE6A09E667F3BCC 0000000000000000 "
-    "BFE6A09E667F3BCC 0000000000000000 0000000000000000 3FF0000000000000 3FF0000000000000\nend 1 2 4008000000000000\n",
+    "BFE6A09E667F3BCC 0000000000000000 0000000000000000 3FF0000000000000 3FF0000000000000\nend 1 2 4008000000000000\n"
 )
-BEYOND = (
-    "ray x=0 y=0 z=0x1p-30 dx=0x1p50 dy=0 dz=0x1p20 index=1\neven vertex=0 index=1 c=0 k=0 semi=0.5\n",
+# and one whose last move was small, hit beyond its semi-diameter
+BEYOND = "ray x=0 y=0 z=0x1p-30 dx=0x1p50 dy=0 dz=0x1p20 index=1\neven vertex=0 index=1 c=0 k=0 semi=0.5\n"
+BEYOND_LISTING = (
     "0 1 1 BCD0000000000000 BFF0000000000000 0000000000000000 0000000000000000 8000000000000000 0000000000000000 "
-    "BFF0000000000000 3FF0000000000000 0000000000000000 0000000000000000 3FF0000000000000\nend 1 1 BCD0000000000000\n",
-)
-
-NEEDLE = (
-    "ray x=0x1.6849b86a12b99p-47 y=0 z=1e-9 dx=1e6 dy=0 dz=1e6 index=1\n"
-    "even vertex=0 index=1 c=1e10 k=-1 semi=10\n",
-    "0 1 1 BCD203AF9EC0A690 BE112E00A5B42E88 0000000000000000 3C22725E00000000 BFEFD75806E3049C 0000000000000000 "
-    "BFB97923EA9E1C7D 3FE6A09E667F3BCD 0000000000000000 3FE6A09E667F3BCD 3FF0000000000000\nend 1 1 BCD203AF9EC0A690\n",
-)
-
-RIM = (
-    "ray x=116358.18618037231 y=0 z=116060.48421728557 dx=6.704738386858156 dy=0 dz=0.018868208915626905 index=1\n"
-    "biconic vertex=0 index=1 cx=8.594152485154436e-06 kx=0 cy=8.594152485154436e-06 ky=0 semi=232716.37354059122\n",
-    "0 1 7 BFAD098F5E10E084 40FC685CE517AAF9 0000000000000000 40FC55C7BAF88F8C 3FEFFFF922D34765 0000000000000000 "
-    "BF64F595C6811AF3 3FEFFFF7B2237117 0000000000000000 3F670DB2D9AE8746 0000000000000000\nend 1 7 BFAD098F5E10E084\n",
+    "BFF0000000000000 3FF0000000000000 0000000000000000 0000000000000000 3FF0000000000000\nend 1 1 BCD0000000000000\n"
 )
 
 
@@ -82,19 +69,14 @@ def changed_lenses(lens):
             yield matters, lens._replace(surfaces=[*lens.surfaces[:i], other, *lens.surfaces[i + 1 :]])
 
 
-def slots_of(record):
-    return [record.t, *record.point, *record.normal, *record.direction, float(record.front)]
-
-
 def next_up(x):
     """The next pattern, away from 0."""
     return of_pattern(f"{int(pattern(x), 16) + 1:016X}")
 
 
-def other_slots(slots, is_conic):
-    """The slots with each in turn another."""
-    t, *numbers, front = slots
-    others = [next_up(t) if is_conic else t * (1 + 2**-30), *map(next_up, numbers), 1 - front]
+def other_slots(slots):
+    """The slots with each in turn another, by a bit; the last is the front face."""
+    others = [*map(next_up, slots[:-1]), 1 - slots[-1]]
     return [[*slots[:i], other, *slots[i + 1 :]] for i, other in enumerate(others)]
 
 
@@ -115,20 +97,18 @@ class Samples(Refusing, unittest.TestCase):
         self.assertEqual(refused, {"doublet": 22, "phone": 160, "mirrors": 31, "toroid": 31, "lost": 15})
 
     def test_every_number_of_a_hit(self):
-        """A record whose t, point, normal, direction or face is another: by a bit, but for the t of a search."""
         for name in ALL:
             lens, listing = lens_of(name), listing_of(name)
             for at, record in enumerate(listing.hits()):
-                is_conic = lens.surfaces[at].kind == "conic"
-                for slot, others in enumerate(other_slots(slots_of(record), is_conic)):
-                    other = hit(record.number, record.steps, record.line, others)
+                others = [hit(at, record.steps, record.line, slots) for slots in other_slots(record.slots())]
+                for other in [*others, record._replace(steps=record.steps + 1)]:
                     records = [*listing.records[:at], other, *listing.records[at + 1 :]]
-                    self.assertIsNotNone(refusal(listing._replace(records=records), lens), (name, at, slot))
+                    self.assertIsNotNone(refusal(listing._replace(records=records), lens), (name, other))
 
     def test_the_slip_is_mended_and_the_lens_not_traced_again(self):
         mended = prescription((SAMPLES / "lost.txt").read_text().replace("vertex=-6.5", "vertex=6.5"))
         told = refusal(listing_of("lost"), mended)
-        self.assert_told(told, 3, "surface 2: the beam meets it within its semi-diameter")
+        self.assert_told(told, 3, "surface 2: the listing has a refusal with 6 (missed), and lens and ray a hit")
 
 
 class Traces(unittest.TestCase):
@@ -143,7 +123,7 @@ class Traces(unittest.TestCase):
 
 def traces():
     """What the gate's script had traced after each reply, up to the first line that cannot be read: the lens, and the
-    records as a listing that has not ended."""
+    records as a listing."""
     replies = iter((CRATES / "scans" / "stdout").read_text().split("\n"))
     reply, recipe, lens = next(replies), b"", None
     for line in (CRATES / "scans" / "stdin").read_text().split("\n"):
@@ -157,15 +137,16 @@ def traces():
             lens = None
             continue
         is_accepted, records = reply.split()[1] == "1", []
+        steps, outcome = map(int, next(replies).split()[-2:])
         reply = next(replies)
-        while reply.split()[0] in ("state", "record", "tail"):
+        while reply.split()[0] in ("record", "tail"):
             records += [reply.split()[2:]] if reply.startswith("record") else []
             reply = next(replies)
         if word == "start":
             lens = parsed(bytes_of(0, list(map(of_pattern, operands))) + recipe)
         if lens is not None and is_accepted:
             made = [record_of(i, list(map(of_pattern, numbers))) for i, numbers in enumerate(records)]
-            yield lens, Listing(made, 0, sum(record.steps for record in made), 0.0)
+            yield lens, Listing(made, outcome, steps)
 
 
 def record_of(number, row):
@@ -176,52 +157,60 @@ def record_of(number, row):
 class Held(Refusing, unittest.TestCase):
     def test_listings_of_other_recipes(self):
         even, small = "even vertex=1 index=1 c=0 k=0 semi=9\n", "conic vertex=1 index=1 c=0 k=0 semi=9\n"
+        behind = small.replace("vertex=1", "vertex=-1")
         done, missed = f"{HIT_LINE}\n{END}", f"{HIT_LINE}\n{MISSED}\nend 6 4 {pattern(5.0)}"
         vignetted = missed.replace(MISSED, VIGNETTED).replace("end 6 4", "end 7 2")
         dark, negative = PLANE.replace("index=2", "index=0"), PLANE.replace("semi=", "semi=-")
         malformed, singular = "10 (malformed recipe) at byte 0", "4 (singular) at byte 60"
+        refused = "a refusal with {}, and lens and ray".format
         for text, recipe, line, reason in (
             (done, PLANE, 1, f"the listing has a trace, and the recipe a start refused with {malformed}"),
             (done, RAY, 1, "surface 0, and the recipe has 0"),
-            (done, RAY + PLANE * 2, 2, "done after 1 of the recipe's 2 surfaces"),
+            (done, RAY + PLANE * 2, 2, "done, and 1 of the recipe's surfaces are left"),
             (done, RAY + dark, 1, f"and the recipe a start refused with {singular}"),
-            (missed, RAY + PLANE + small, 2, "surface 1: 3 steps, and a conic takes at most 1"),
-            (vignetted, RAY + PLANE + even, 2, "surface 1: the limit is 10, and the semi-diameter 9"),
-            (vignetted, RAY + PLANE * 2, 2, "surface 1: the beam meets it within its semi-diameter"),
+            (missed, RAY + PLANE + small, 2, f"surface 1: the listing has {refused('6 (missed)')} a hit"),
+            (missed, RAY + PLANE + behind, 2, "surface 1: the listing has 3 steps, and lens and ray 1"),
+            (vignetted, RAY + PLANE * 2, 2, f"surface 1: the listing has {refused('7 (vignetted)')} a hit"),
+            (f"{HIT_LINE}\nend 0 1 {pattern(5.0)}", RAY + PLANE, 2, "not ended, after as many steps as end"),
+            (f"{HIT_LINE}\nend 0 26 {pattern(5.0)}", RAY + PLANE + even, 2, "not ended, after as many steps as end"),
             ("refused 3 60", RAY + PLANE, 1, "at byte 60, and the recipe a trace"),
             ("refused 3 60", RAY + PLANE + negative, 1, "(negative semi-diameter of a conic) at byte 104"),
             ("refused 10 60", PLANE, 1, f"the recipe a start refused with {malformed}"),
         ):
             self.assert_told(refusal(text, prescription(recipe)), line, reason)
-        self.assertIsNone(refusal(missed, prescription(RAY + PLANE + even)))
+        self.assertIsNone(refusal(f"{HIT_LINE}\nend 0 25 {pattern(5.0)}", prescription(RAY + PLANE + even)))
         self.assertIsNone(refusal("refused 10 0", prescription(PLANE)))
         self.assertIsNone(refusal("refused 2 0", prescription(RAY.replace("x=0", "x=inf") + PLANE)))
 
-    def test_each_reason(self):
+    def test_a_conic_that_was_changed(self):
         done = f"{HIT_LINE}\n{END}"
         for old, new, reason in (
-            ("z=-5", "z=-4", "t is 5, and the beam meets it at 4"),
-            ("z=-5", "z=5", "the beam misses it"),
+            ("z=-5", "z=-4", "t is 5 in the listing, and 4 by lens and ray"),
+            ("z=-5", "z=5", "the listing has a hit, and lens and ray a refusal with 6 (missed)"),
             ("semi=10", "semi=0", None),
-            (" x=0", " x=11", "the beam meets it 11 mm from the axis, and its semi-diameter is 10 mm"),
-            (" x=0", " x=1", "the point is not t along the beam that comes to it"),
-            ("dx=0", "dx=0.1", "the point is not t along the beam that comes to it"),
-            ("index=2", "index=1", None),
+            (" x=0", " x=11", "the listing has a hit, and lens and ray a refusal with 7 (vignetted)"),
+            (" x=0", " x=1", "point x is 0 in the listing, and 1 by lens and ray"),
+            ("index=1", "index=1.5", None),
+            ("conic", "mirror conic", "new direction z is 1 in the listing, and -1 by lens and ray"),
         ):
             self.assert_reason(refusal(done, prescription((RAY + PLANE).replace(old, new))), reason)
-        recipe, listing = EVEN
+
+    def test_a_search_that_was_changed(self):
+        """A smaller semi-diameter ends it at the hit, or in a pass before."""
         for old, new, reason in (
             ("semi=5", "semi=4", None),
-            ("semi=5", "semi=3.9", "the point lies 4 mm from the axis, and its semi-diameter is 3.9 mm"),
-            ("a1=0.125", "a1=0.25", "the point lies 2 mm from the surface"),
-            ("vertex=0", "vertex=9e-12", None),
-            ("vertex=0", "vertex=2e-11", "the point lies 2e-11 mm from the surface"),
-            ("a1=0.125", "a1=0 a2=0.0078125", "the normal is not the surface's at the point"),
-            ("even vertex=0 index=1", "even vertex=0 index=1.5", "the new direction is not what refraction gives"),
-            ("even vertex", "mirror even vertex", "the new direction is not what reflection gives"),
-            ("c=0 k=0 semi=5 a1=0.125", "c=1 k=0 semi=5", "the surface has no point where it is hit"),
+            ("semi=5", "semi=3.9", "the listing has a hit, and lens and ray a refusal with 7 (vignetted)"),
+            ("semi=5", "semi=2", "the listing has a hit, and lens and ray a refusal with 6 (missed)"),
+            ("a1=0.125", "a1=0.25", "t is 3 in the listing, and 5 by lens and ray"),
+            ("vertex=0", "vertex=0x1p-51", "t is 3 in the listing, and 3.0000000000000004 by lens and ray"),
+            ("a1=0.125", "a1=0 a2=0.0078125", "normal x is 0.7071067811865475 in the listing, and 0.8944271909999159"),
+            ("even vertex=0 index=1", "even vertex=0 index=1.5", "new direction x is 0 in the listing"),
+            ("c=0 k=0 semi=5 a1=0.125", "c=1 k=0 semi=5", "the listing has a hit, and lens and ray a refusal with 6"),
         ):
-            self.assert_reason(refusal(listing, prescription(recipe.replace(old, new))), reason)
+            self.assert_reason(refusal(EVEN_LISTING, prescription(EVEN.replace(old, new))), reason)
+        far, listing = EVEN.replace("dz=1 ", "dz=16 "), EVEN_LISTING.replace(pattern(3.0), pattern(3 / 16))
+        self.assert_reason(refusal(listing, prescription(far)), None)
+        self.assert_reason(refusal(listing, prescription(far.replace("semi=5", "semi=3.9"))), "the listing has a hit")
 
     def assert_reason(self, told, reason):
         if reason is None:
@@ -229,34 +218,29 @@ class Held(Refusing, unittest.TestCase):
         else:
             self.assert_told(told, 1, f"surface 0: {reason}")
 
-    def test_a_small_move_may_leave_a_residual(self):
-        """At a needle, with a direction of length 1e6; at the rim of a radius of 116 m; and with one of length 16."""
-        for recipe, listing in (NEEDLE, RIM):
-            self.assertIsNone(refusal(listing, prescription(recipe)))
-        recipe, listing = EVEN[0].replace("dz=1", "dz=16"), EVEN[1].replace(pattern(3.0), pattern(3 / 16))
-        for vertex, reason in ((0, None), (9e-10, None), (2e-9, "the point lies 2e-09 mm from the surface")):
-            changed = prescription(recipe.replace("vertex=0", f"vertex={vertex}"))
-            self.assert_reason(refusal(listing, changed), reason)
+    def test_a_hit_beyond_the_semi_diameter(self):
+        """Of an even asphere alone, where the last move was small."""
+        self.assertIsNone(refusal(BEYOND_LISTING, prescription(BEYOND)))
+        biconic = BEYOND.replace("even vertex=0 index=1 c=0 k=0", "biconic vertex=0 index=1 cx=0 kx=0 cy=0 ky=0")
+        told = refusal(BEYOND_LISTING.replace("8000000000000000", ZERO), prescription(biconic))
+        self.assert_reason(told, "the listing has a hit, and lens and ray a refusal with 7 (vignetted)")
 
-    def test_a_small_move_may_end_beyond_the_edge(self):
-        """Of an even asphere alone."""
-        recipe, listing = BEYOND
-        self.assertIsNone(refusal(listing, prescription(recipe)))
-        biconic = recipe.replace("even vertex=0 index=1 c=0 k=0", "biconic vertex=0 index=1 cx=0 kx=0 cy=0 ky=0")
-        told = refusal(listing.replace("8000000000000000", ZERO), prescription(biconic))
-        self.assert_reason(told, "the point lies 1 mm from the axis, and its semi-diameter is 0.5 mm")
-
-    def test_refusals_of_a_conic(self):
-        """By total reflection from 2 to 1, and not from 2 to 2."""
+    def test_refusals(self):
+        """By the right number, and a 7 by its own numbers."""
         ray = "ray x=0 y=0 z=-5 dx=0.8 dy=0 dz=0.6 index=2\n"
-        for number in (8, 9):
+        for number in (4, 5, 8, 9):
             listing = " ".join([f"0 {number} 1", *[ZERO] * 11]) + f"\nend {number} 1 {ZERO}\n"
-            self.assertIsNone(refusal(listing, prescription(ray + PLANE.replace("index=2", "index=1"))))
-            self.assert_reason(refusal(listing, prescription(ray + PLANE)), "the beam meets it and goes on")
-
-    def test_what_is_held(self):
-        missed = read(f"{HIT_LINE}\n{MISSED}\nend 6 4 {pattern(5.0)}").refused()
-        self.assertEqual([is_held(missed, lens_of("mirrors").surfaces[i]) for i in (1, 2)], [True, False])
+            told = refusal(listing, prescription(ray + PLANE.replace("index=2", "index=1")))
+            self.assert_reason(told, None if number == 8 else f"the listing has a refusal with {number}")
+            self.assert_reason(refusal(listing, prescription(ray + PLANE)), f"the listing has a refusal with {number}")
+        aside, listing = RAY.replace(" x=0", " x=12"), VIGNETTED.replace("1 7", "0 7") + f"\nend 7 1 {ZERO}\n"
+        self.assertIsNone(refusal(listing, prescription(aside + PLANE)))
+        for old, new, reason in (
+            ("x=12", "x=12.5", "r is 12 in the listing, and 12.5 by lens and ray"),
+            ("semi=10", "semi=9", "limit is 10 in the listing, and 9 by lens and ray"),
+            ("semi=10", "semi=12", "the listing has a refusal with 7 (vignetted), and lens and ray a hit"),
+        ):
+            self.assert_reason(refusal(listing, prescription((aside + PLANE).replace(old, new))), reason)
 
     def test_malformed(self):
         """A start goes record by record, and asks for the ray last."""

@@ -3,11 +3,11 @@ import unittest
 
 from trying import CRATES
 from numerals import of_pattern, pattern
-from optics import conic_crossing, distance, dot, normal, reflected, refracted, sag
+from optics import Beam, Refusal, crossing, dot, normal, reflected, refracted, sag, slopes
 from records import SHAPES, Surface
 
 # how many questions of each sort the gate's list has at least, so that none is left out unseen
-ASKED = {"sag": 60, "normal": 30, "turn": 30, "intersect": 60}
+ASKED = {"sag": 60, "derivatives": 40, "normal": 30, "turn": 30, "intersect": 250}
 
 # what document 01's own checks refuse, which a start makes before a trace; a plane's normal, which no trace asks for
 LEFT_OUT = {
@@ -15,6 +15,9 @@ LEFT_OUT = {
     "conic_intersect": lambda numbers: numbers[9] < 0,
     "even_sag": lambda numbers: numbers[0] < 0 or len(numbers) > 12,
     "even_normal": lambda numbers: len(numbers) > 13,
+    "even_intersect": lambda numbers: numbers[9] < 0 or len(numbers) > 18,
+    "biconic_intersect": lambda numbers: numbers[11] < 0,
+    "toroid_intersect": lambda numbers: numbers[10] < 0,
 }
 
 
@@ -29,8 +32,12 @@ def surface_of(kind, own, vertex=0.0):
 def asked_sag(kind, numbers):
     """A radial sag is asked for by r, which is the distance of (r, 0)."""
     if kind in ("conic", "even"):
-        return sag(surface_of(kind, [*numbers[1:], 1.0] if kind == "conic" else numbers[1:]), numbers[0], 0.0)
-    return sag(surface_of(kind, numbers[2:]), *numbers[:2])
+        return [sag(surface_of(kind, [*numbers[1:], 1.0] if kind == "conic" else numbers[1:]), numbers[0], 0.0)]
+    return [sag(surface_of(kind, numbers[2:]), *numbers[:2])]
+
+
+def asked_derivatives(kind, numbers):
+    return slopes(surface_of(kind, numbers[2:]), *numbers[:2])
 
 
 def asked_normal(kind, numbers):
@@ -39,35 +46,42 @@ def asked_normal(kind, numbers):
     return normal(surface_of(kind, numbers[2:]), (*numbers[:2], 0.0))
 
 
-def asked_turn(word, numbers):
-    return reflected(*vectors(numbers)) if word == "reflect" else refracted(*vectors(numbers[:6]), *numbers[6:])
+def asked_turn(kind, numbers):
+    return reflected(*vectors(numbers)) if kind == "reflect" else refracted(*vectors(numbers[:6]), *numbers[6:])
 
 
-def asked_conic(numbers):
-    """t, point, normal and front face; or None."""
-    (origin, direction), conic = vectors(numbers[:6]), surface_of("conic", numbers[7:], numbers[6])
-    t = conic_crossing(conic, origin, direction)
-    point = None if t is None else tuple(a + t * b for a, b in zip(origin, direction))
-    if point is None or distance(*point[:2]) > numbers[9]:
-        return None
-    facing = normal(conic, point)
-    return facing and (t, *point, *facing, float(dot(direction, facing) < 0))
+def asked_intersect(kind, numbers):
+    """t and point, and of a conic normal and front face."""
+    beam, surface = Beam(*vectors(numbers[:6]), 1.0), surface_of(kind, numbers[7:], numbers[6])
+    t = crossing(surface, beam, [])
+    if kind != "conic":
+        return t, *beam.at(t)
+    facing = normal(surface, beam.at(t))
+    return t, *beam.at(t), *facing, float(dot(beam.direction, facing) < 0)
+
+
+FUNCTIONS = {
+    "sag": asked_sag,
+    "derivatives": asked_derivatives,
+    "normal": asked_normal,
+    "turn": asked_turn,
+    "intersect": asked_intersect,
+}
 
 
 def sort_of(word):
     kind, _, what = word.partition("_")
     if word in ("reflect", "refract"):
         return "turn"
-    return what if kind in SHAPES and (what in ("sag", "normal") or word == "conic_intersect") else None
+    return what if kind in SHAPES and what in FUNCTIONS else None
 
 
-def asked(word, numbers):
-    kind, sort = word.partition("_")[0], sort_of(word)
-    if sort == "turn":
-        return asked_turn(word, numbers)
-    if sort == "intersect":
-        return asked_conic(numbers)
-    return asked_sag(kind, numbers) if sort == "sag" else asked_normal(kind, numbers)
+def answered(word, numbers):
+    """As `answers` writes it."""
+    try:
+        return ["1", *map(pattern, FUNCTIONS[sort_of(word)](word.partition("_")[0], numbers))]
+    except Refusal as refusal:
+        return [str(refusal.number), *map(pattern, refusal.slots[: 2 if refusal.number == 7 else 0])]
 
 
 def stored():
@@ -84,20 +98,17 @@ def stored():
 
 class Optics(unittest.TestCase):
     def test_the_gates_answers(self):
-        """Bit by bit, and refused where they are."""
+        """Number and values, bit by bit."""
         count = dict.fromkeys(ASKED, 0)
         for word, numbers, told in stored():
             count[sort_of(word)] += 1
-            ours = asked(word, numbers)
-            ours = [ours] if isinstance(ours, float) else ours
-            due = told[1:] if told[0] == "1" else None
-            self.assertEqual(ours and list(map(pattern, ours)), due, (word, numbers))
+            self.assertEqual(answered(word, numbers), told, (word, numbers))
         self.assertTrue(all(count[sort] >= least for sort, least in ASKED.items()), count)
 
     def test_every_kind_has_its_formulas(self):
         for kind, shape in SHAPES.items():
             one = surface_of(kind, [0.5] * len(shape.names))
-            self.assertIsNotNone(sag(one, 0.25, 0.0))
+            self.assertTrue(math.isfinite(sag(one, 0.25, 0.0)))
             self.assertAlmostEqual(dot(*[normal(one, (0.25, 0.0, 0.0))] * 2), 1.0)
 
 

@@ -90,7 +90,7 @@ impl Slots {
         sum.copy_from_slice(&checksum(&copy).to_le_bytes());
     }
 
-    /// Before the next lens is in the holder: the lens before it does not come back.
+    /// Before each start, and before the next lens is in the holder: no trace before it comes back.
     pub fn forget(&mut self) {
         self.memory.iter_mut().for_each(|slot| slot.fill(0));
     }

@@ -92,8 +92,10 @@ impl Station {
         Beam { origin: [x, y, z], ..self.beam }
     }
 
+    /// Anew: of the trace before nothing must come back, even if the power fails before this one is kept.
     fn begin(&mut self, x: f64) -> u64 {
         let beam = self.beam_at(x);
+        self.slots.forget();
         self.live.recipe = checksum(&self.recipe);
         number_of(self.live.trace(&self.recipe).start(&beam))
     }
@@ -301,7 +303,13 @@ impl Station {
     }
 
     fn power_fails_in_copies(&mut self, x: f64) {
-        self.change_lens("Lens 4: the power fails in a copy, of the start and of a scan. The slots had lens 3.");
+        let title =
+            "Lens 4: the power fails before the start; then in the copy of a start anew, and in that of a scan.";
+        self.change_lens(title);
+        self.lose_live();
+        self.power_cycle("the power fails", Restored::NoWholeCopy);
+        self.start(x, ACCEPTED);
+        self.scans(1, 1, ACCEPTED);
         self.start(x, ACCEPTED);
         self.cut_copy(&[0; SLOT_BYTES], SLOT_BYTES / 2);
         self.power_cycle("the power fails in the copy of the start", Restored::NoWholeCopy);

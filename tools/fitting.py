@@ -1,9 +1,9 @@
 """Whether a listing is of a recipe and its ray as they stand: every record to the bit."""
 from listing import BadListing
-from numerals import numeral, pattern
+from numerals import counted, numeral, pattern
 from optics import Beam, leg
 from records import SHAPES, faults, file_places
-from table import DONE, HIT, MALFORMED, NOT_ENDED, VIGNETTED, told
+from table import DONE, HIT, MALFORMED, NOT_ENDED, told
 
 VECTORS = ("point", "normal", "new direction")
 HIT_SLOTS = ("t", *(f"{vector} {axis}" for vector in VECTORS for axis in "xyz"), "front face")
@@ -71,6 +71,6 @@ def hold_end(listing, left):
     """What may follow the records, with these surfaces left."""
     line, made = len(listing.records) + 1, sum(record.steps for record in listing.records)
     if listing.outcome == DONE and left:
-        raise BadListing(line, f"done, and {len(left)} of the recipe's surfaces are left")
+        raise BadListing(line, f"done, with {counted(len(left), 'surface')} of the recipe left")
     if listing.outcome == NOT_ENDED and (not left or listing.steps - made >= SHAPES[left[0].kind].steps):
         raise BadListing(line, "not ended, after as many steps as end the next surface or the recipe")

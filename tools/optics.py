@@ -16,7 +16,7 @@ class Refusal(Exception):
 
     def __init__(self, number, r=0.0, limit=0.0):
         super().__init__(number)
-        self.number, self.slots = number, [r, limit, *[0.0] * 9]
+        self.number, self.slots = number, [r, limit]
 
 
 class Beam(NamedTuple):
@@ -34,7 +34,7 @@ class Beam(NamedTuple):
 
 
 def leg(surface, beam):
-    """What a beam leaves at a surface: status, steps, and slots 1 to 11 of the record."""
+    """What a beam leaves at a surface: status, steps, and the record's slots from 1 on, of a refusal r and limit."""
     begun = []
     try:
         t = crossing(surface, beam, begun)

@@ -166,7 +166,7 @@ class Held(Refusing, unittest.TestCase):
         for text, recipe, line, reason in (
             (done, PLANE, 1, f"the listing has a trace, and the recipe a start refused with {malformed}"),
             (done, RAY, 1, "surface 0, and the recipe has 0"),
-            (done, RAY + PLANE * 2, 2, "done, and 1 of the recipe's surfaces are left"),
+            (done, RAY + PLANE * 2, 2, "done, with 1 surface of the recipe left"),
             (done, RAY + dark, 1, f"and the recipe a start refused with {singular}"),
             (missed, RAY + PLANE + small, 2, f"surface 1: the listing has {refused('6 (missed)')} a hit"),
             (missed, RAY + PLANE + behind, 2, "surface 1: the listing has 3 steps, and lens and ray 1"),

@@ -81,7 +81,7 @@ def answered(word, numbers):
     try:
         return ["1", *map(pattern, FUNCTIONS[sort_of(word)](word.partition("_")[0], numbers))]
     except Refusal as refusal:
-        return [str(refusal.number), *map(pattern, refusal.slots[: 2 if refusal.number == 7 else 0])]
+        return [str(refusal.number), *(map(pattern, refusal.slots) if refusal.number == 7 else [])]
 
 
 def stored():

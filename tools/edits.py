@@ -6,7 +6,8 @@
     old: a text that the file has once
     new: what stands there instead
 
-A file holds for the pairs after it, and a pair meets what those before it have left.
+A file holds for the pairs after it. An old text stands once in the crate's file, and once too where the pairs before it
+are applied: none relies on what another puts in.
 """
 from pathlib import Path
 from typing import List, NamedTuple
@@ -70,8 +71,9 @@ def changed(edit, crate):
     for file, old, new in edit.changes:
         if not file.startswith(ROOMS) or ".." in file or not (crate / file).is_file():
             raise Unfit(f"{file!r} is no file of src/ or specs/")
-        text = texts.get(file) or (crate / file).read_text(encoding="utf-8")
-        if not old or text.count(old) != 1:
+        whole = (crate / file).read_text(encoding="utf-8")
+        text = texts.get(file, whole)
+        if not old or whole.count(old) != 1 or text.count(old) != 1:
             raise Unfit(f"{file} does not have this once: {old!r}")
         texts[file] = text.replace(old, new)
     if not texts:

@@ -66,10 +66,12 @@ class Edits(unittest.TestCase):
     def test_changes(self):
         self.assertEqual(changed(self.read(HEAD + BODY), self.folder), {"src/root.rt": "a\n    q + 1\n", "specs/Sqrt.antt": ", kept, kept\n"})
 
-    def test_meets_what_was_left(self):
-        first, second = ("src/root.rt", "    q", "    r"), ("src/root.rt", "    r", "    s")
-        self.assertEqual(changed(Edit("", "", "", [Change(*first), Change(*second)]), self.folder), {"src/root.rt": "a\n    s\n"})
-        self.assert_unfit("does not have this once", second, first)
+    def test_no_pair_relies_on_another(self):
+        file = "src/root.rt"
+        both = Edit("", "", "", [Change(file, "    q", "    (a)"), Change(file, "a\n", "q\n")])
+        self.assertEqual(changed(both, self.folder), {file: "q\n    (a)\n"})
+        self.assert_unfit("does not have this once: '    r'", (file, "    q", "    r"), (file, "    r", "    s"))
+        self.assert_unfit("does not have this once: 'a'", (file, "    q", "    a"), (file, "a", "s"))
 
     def test_refuses_what_is_not_there_once(self):
         self.assert_unfit("does not have this once", ("specs/Sqrt.antt", "kept", "gone"))

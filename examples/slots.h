@@ -2,7 +2,7 @@
    other is written. The live arrays are not what is kept: a power failure inside a call leaves them torn, and torn
    arrays can pass a continuation's check.
 
-     keep      after each accepted call has returned, never during one
+     keep      after each accepted call has returned, never during one; with another recipe, a stop
      stop      after a refused call: nothing is shown, and nothing comes back
      forget    before each start, and before the next lens is in the holder: no trace before it comes back
      restore   when the power is back: the newest copy that is whole, or a stop */
@@ -42,19 +42,25 @@ static uint64_t checksum(const void *from, size_t bytes) {
     return sum;
 }
 
-static void keep(slot slots[SLOTS], channel *live) {
-    live->turn++;
-    slot *older = &slots[live->turn % SLOTS];
-    older->copy = *live;
-    older->checksum = checksum(live, sizeof *live);
-}
-
 static void forget(slot slots[SLOTS]) { memset(slots, 0, SLOTS * sizeof *slots); }
 
 /* A state of zeros fits no recipe, so only a start goes on from here. */
 static void stop(slot slots[SLOTS], channel *live) {
     forget(slots);
     memset(live, 0, sizeof *live);
+}
+
+/* Whether the trace may go on. Here and below `recipe` is the checksum of the recipe that is in memory now. */
+static int keep(slot slots[SLOTS], channel *live, uint64_t recipe) {
+    slot *older = &slots[(live->turn + 1) % SLOTS];
+    if (live->recipe != recipe) {
+        stop(slots, live);
+        return 0;
+    }
+    live->turn++;
+    older->copy = *live;
+    older->checksum = checksum(live, sizeof *live);
+    return 1;
 }
 
 static int is_whole(const slot *s) { return s->checksum == checksum(&s->copy, sizeof s->copy); }
@@ -66,7 +72,6 @@ static const slot *newest(const slot slots[SLOTS]) {
     return found;
 }
 
-/* `recipe` is the checksum of the recipe that is in memory now. */
 static restored restore(slot slots[SLOTS], channel *live, uint64_t recipe) {
     const slot *last = newest(slots);
     restored found = !last ? NO_WHOLE_COPY : last->copy.recipe != recipe ? ANOTHER_RECIPE : RESTORED;

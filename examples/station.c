@@ -54,12 +54,12 @@ static pilingrue_verdict go_on(void) {
                               live.numbers, steps_a_scan);
 }
 
-/* What follows each call. A verdict other than 1 means: stop, show nothing, start anew. */
-static void heed(pilingrue_verdict v) {
-    if (v.number == PILINGRUE_ACCEPTED)
-        keep(slots, &live);
-    else
-        stop(slots, &live);
+/* What follows each call, and whether the trace goes on. A verdict other than 1 means: stop, show nothing, start
+   anew. */
+static int heed(pilingrue_verdict v) {
+    if (v.number == PILINGRUE_ACCEPTED) return keep(slots, &live, recipe_checksum());
+    stop(slots, &live);
+    return 0;
 }
 
 static pilingrue_verdict trace_unbroken(double x) {
@@ -115,8 +115,11 @@ static void show(void) {
 }
 
 /* The answer to a call, after the station heeded it. */
-static void answered(pilingrue_verdict v, uint64_t expected) {
-    if (v.number != PILINGRUE_ACCEPTED) printf(" is refused, %s", MEANING[v.number]);
+static void answered(pilingrue_verdict v, uint64_t expected, int goes_on) {
+    if (v.number != PILINGRUE_ACCEPTED)
+        printf(" is refused, %s", MEANING[v.number]);
+    else if (!goes_on)
+        printf(" met another recipe");
     show();
     promise(v.number == expected, "what a call answers");
     promise(as_unbroken(), "a record is the unbroken trace's or blank");
@@ -125,23 +128,23 @@ static void answered(pilingrue_verdict v, uint64_t expected) {
 
 static void start(double x, uint64_t expected) {
     pilingrue_verdict v = begin(x);
+    int goes_on;
     promise(memcmp(live.buffer, NOTHING.buffer, sizeof live.buffer) == 0, "a start leaves nothing of the lens before");
-    heed(v);
+    goes_on = heed(v);
     trace_unbroken(x);
     printf("start");
-    answered(v, expected);
+    answered(v, expected, goes_on);
 }
 
-/* From one scan to another, or to a refusal or the trace's end. */
+/* From one scan to another, or to a stop or the trace's end. */
 static void scans(int from, int to, uint64_t expected) {
     for (int n = from; n <= to; n++) {
         pilingrue_verdict v = go_on();
-        int refused = v.number != PILINGRUE_ACCEPTED;
-        promise(!refused || memcmp(&live, &last, sizeof live) == 0, "a refused scan writes nothing");
-        heed(v);
+        int unchanged = memcmp(&live, &last, sizeof live) == 0, goes_on = heed(v);
+        promise(v.number == PILINGRUE_ACCEPTED || unchanged, "a refused scan writes nothing");
         printf("scan %d", n);
-        answered(v, expected);
-        if (refused) return;
+        answered(v, expected, goes_on);
+        if (!goes_on) return;
         if (live.counts[PILINGRUE_COUNTS_OUTCOME] == PILINGRUE_RUNNING) continue;
         promise(ends_as_unbroken(), "a trace ends as the unbroken one");
         return;
@@ -270,18 +273,21 @@ static void power_fails_in_copies(double x) {
 
 static void recipe_is_exchanged(double x) {
     size_t at = loaded.recipe_bytes - 2; /* in the last number, so in a semi-diameter where that is last */
-    change_lens("Lens 5: while the power is off, the recipe is exchanged for one with another last number.");
+    change_lens("Lens 5: the recipe's last number is exchanged, while the power is off and then between two scans.");
     start(x, PILINGRUE_ACCEPTED);
     scans(1, 1, PILINGRUE_ACCEPTED);
     lose_live();
     flip_recipe(at, 8);
     power_cycle("the power fails", ANOTHER_RECIPE);
     start(x, PILINGRUE_ACCEPTED);
-    scans(1, ALL, PILINGRUE_ACCEPTED);
+    scans(1, 1, PILINGRUE_ACCEPTED);
     flip_recipe(at, 8);
-    scan_unseen(); /* with a recipe that is not the trace's: its copy still has the checksum of the other */
+    scans(2, ALL, PILINGRUE_ACCEPTED);
+    promise(memcmp(&live, &NOTHING, sizeof live) == 0, "with another recipe nothing is shown");
     lose_live();
-    come_back(ANOTHER_RECIPE);
+    come_back(NO_WHOLE_COPY);
+    start(x, PILINGRUE_ACCEPTED);
+    scans(1, ALL, PILINGRUE_ACCEPTED);
 }
 
 static void recipe_goes_bad(double x) {

@@ -86,11 +86,11 @@ pub enum Record {
     Refused { number: u64, steps: u16 },
 }
 
-/// One trace at a time, in a lent buffer and a lent state, which outlive it.
+/// What a call is lent. Buffer and state are read when it has returned.
 pub struct Trace<'a> {
-    recipe: &'a [u8],
-    buffer: &'a mut [f64],
-    state: &'a mut State,
+    pub recipe: &'a [u8],
+    pub buffer: &'a mut [f64],
+    pub state: &'a mut State,
 }
 
 /// The version of the archive.
@@ -124,25 +124,13 @@ impl Record {
     }
 }
 
-impl<'a> Trace<'a> {
-    /// No trace yet, and a blank buffer.
-    pub fn new(recipe: &'a [u8], buffer: &'a mut [f64], state: &'a mut State) -> Trace<'a> {
-        let mut trace = Trace::restored(recipe, buffer, state);
-        trace.stop();
-        trace
-    }
-
-    /// The trace that was left in buffer and state.
-    pub fn restored(recipe: &'a [u8], buffer: &'a mut [f64], state: &'a mut State) -> Trace<'a> {
-        Trace { recipe, buffer, state }
-    }
-
+impl Trace<'_> {
     /// Blanks the buffer and starts with this beam. No step is taken.
     pub fn start(&mut self, beam: &Beam) -> Result<(), Verdict> {
         raw::start(self.recipe, beam, self.buffer, self.state).accepted()
     }
 
-    /// Takes up to so many steps, none once the trace has ended. After a refusal: stop, and start anew.
+    /// Takes up to so many steps, none once the trace has ended. After a refusal: stop, show nothing, start anew.
     pub fn resume(&mut self, allowed: u16) -> Result<(), Verdict> {
         raw::resume(self.recipe, self.buffer, self.state, allowed).accepted()
     }
@@ -150,27 +138,5 @@ impl<'a> Trace<'a> {
     /// A start and all steps.
     pub fn whole(&mut self, beam: &Beam) -> Result<(), Verdict> {
         raw::whole(self.recipe, beam, self.buffer, self.state).accepted()
-    }
-
-    /// Blanks the buffer and forgets the state: nothing is shown, and only a start goes on.
-    pub fn stop(&mut self) {
-        self.buffer.fill(0.0);
-        *self.state = State::default();
-    }
-
-    pub fn state(&self) -> State {
-        *self.state
-    }
-
-    pub fn buffer(&self) -> &[f64] {
-        self.buffer
-    }
-
-    pub fn record(&self, surface: usize) -> Record {
-        Record::at(self.buffer, surface)
-    }
-
-    pub fn outcome(&self) -> u64 {
-        self.state.counts[COUNTS_OUTCOME]
     }
 }

@@ -67,7 +67,7 @@ impl Channel {
 
     /// For a call.
     pub fn trace<'a>(&'a mut self, recipe: &'a [u8]) -> Trace<'a> {
-        Trace::restored(recipe, &mut self.buffer, &mut self.state)
+        Trace { recipe, buffer: &mut self.buffer, state: &mut self.state }
     }
 }
 
@@ -81,13 +81,19 @@ impl Slots {
         &mut self.memory[turn as usize % SLOTS]
     }
 
-    /// After each accepted call has returned, never during one.
-    pub fn keep(&mut self, live: &mut Channel) {
+    /// After each accepted call has returned, never during one. Answers whether the trace may go on: with another
+    /// recipe it is a stop. Here and below `recipe` is the checksum of the recipe that is in memory now.
+    pub fn keep(&mut self, live: &mut Channel, recipe: u64) -> bool {
+        if live.recipe != recipe {
+            self.stop(live);
+            return false;
+        }
         live.turn += 1;
         let copy = live.bytes();
         let (older, sum) = self.of_turn(live.turn).split_at_mut(CHANNEL_BYTES);
         older.copy_from_slice(&copy);
         sum.copy_from_slice(&checksum(&copy).to_le_bytes());
+        true
     }
 
     /// Before each start, and before the next lens is in the holder: no trace before it comes back.
@@ -102,8 +108,7 @@ impl Slots {
         *live = Channel::blank();
     }
 
-    /// When the power is back: the newest copy that is whole, or a stop. `recipe` is the checksum of the recipe that is
-    /// in memory now.
+    /// When the power is back: the newest copy that is whole, or a stop.
     pub fn restore(&mut self, live: &mut Channel, recipe: u64) -> Restored {
         let found = match self.memory.iter().filter_map(|slot| whole(slot)).max_by_key(|copy| copy.turn) {
             Some(newest) if newest.recipe == recipe => {

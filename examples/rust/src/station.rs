@@ -104,13 +104,14 @@ impl Station {
         number_of(self.live.trace(&self.recipe).resume(self.steps))
     }
 
-    /// What follows each call. A verdict other than 1 means: stop, show nothing, start anew.
-    fn heed(&mut self, number: u64) {
+    /// What follows each call, and whether the trace goes on. A verdict other than 1 means: stop, show nothing, start
+    /// anew.
+    fn heed(&mut self, number: u64) -> bool {
         if number == ACCEPTED {
-            self.slots.keep(&mut self.live);
-        } else {
-            self.slots.stop(&mut self.live);
+            return self.slots.keep(&mut self.live, checksum(&self.recipe));
         }
+        self.slots.stop(&mut self.live);
+        false
     }
 
     fn trace_unbroken(&mut self, x: f64) -> Result<(), Verdict> {
@@ -154,9 +155,11 @@ impl Station {
     }
 
     /// The answer to a call, after the station heeded it.
-    fn answered(&mut self, number: u64, expected: u64) {
+    fn answered(&mut self, number: u64, expected: u64, goes_on: bool) {
         if number != ACCEPTED {
             print!(" is refused, {}", MEANING[number as usize]);
+        } else if !goes_on {
+            print!(" met another recipe");
         }
         self.show();
         self.promise(number == expected, "what a call answers");
@@ -168,22 +171,22 @@ impl Station {
         let number = self.begin(x);
         let blank = same_bits(&self.live.buffer, &Channel::blank().buffer);
         self.promise(blank, "a start leaves nothing of the lens before");
-        self.heed(number);
+        let goes_on = self.heed(number);
         let _ = self.trace_unbroken(x);
         print!("start");
-        self.answered(number, expected);
+        self.answered(number, expected, goes_on);
     }
 
-    /// From one scan to another, or to a refusal or the trace's end.
+    /// From one scan to another, or to a stop or the trace's end.
     fn scans(&mut self, from: usize, to: usize, expected: u64) {
         for n in from..=to {
             let number = self.go_on();
-            let refused = number != ACCEPTED;
-            self.promise(!refused || self.live.bytes() == self.last.bytes(), "a refused scan writes nothing");
-            self.heed(number);
+            let unchanged = self.live.bytes() == self.last.bytes();
+            let goes_on = self.heed(number);
+            self.promise(number == ACCEPTED || unchanged, "a refused scan writes nothing");
             print!("scan {n}");
-            self.answered(number, expected);
-            if refused {
+            self.answered(number, expected, goes_on);
+            if !goes_on {
                 return;
             }
             if self.live.state.counts[COUNTS_OUTCOME] != RUNNING {
@@ -287,7 +290,7 @@ impl Station {
 
     fn scan_unseen(&mut self) {
         let number = self.go_on();
-        self.heed(number);
+        let _ = self.heed(number);
     }
 
     /// The copy of a scan is cut or spoiled at several bytes, and the scan before it comes back each time.
@@ -325,18 +328,22 @@ impl Station {
 
     fn recipe_is_exchanged(&mut self, x: f64) {
         let at = self.recipe.len() - 2; // in the last number, so in a semi-diameter where that is last
-        self.change_lens("Lens 5: while the power is off, the recipe is exchanged for one with another last number.");
+        let title = "Lens 5: the recipe's last number is exchanged, while the power is off and then between two scans.";
+        self.change_lens(title);
         self.start(x, ACCEPTED);
         self.scans(1, 1, ACCEPTED);
         self.lose_live();
         self.flip_recipe(at, 8);
         self.power_cycle("the power fails", Restored::AnotherRecipe);
         self.start(x, ACCEPTED);
-        self.scans(1, ALL, ACCEPTED);
+        self.scans(1, 1, ACCEPTED);
         self.flip_recipe(at, 8);
-        self.scan_unseen(); // with a recipe that is not the trace's: its copy still has the checksum of the other
+        self.scans(2, ALL, ACCEPTED);
+        self.promise(self.live.bytes() == [0; CHANNEL_BYTES], "with another recipe nothing is shown");
         self.lose_live();
-        self.come_back(Restored::AnotherRecipe);
+        self.come_back(Restored::NoWholeCopy);
+        self.start(x, ACCEPTED);
+        self.scans(1, ALL, ACCEPTED);
     }
 
     fn recipe_goes_bad(&mut self, x: f64) {

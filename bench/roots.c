@@ -1,10 +1,11 @@
 /* Latency and throughput of our square root as ratios to the hardware's, from one run on the same inputs.
  *
- * For each input both functions are called CALLS times in a row, each call through a pointer. For the latency each argument
- * waits for the last answer, by a product and a sum that both sides pay; for the throughput it does not. The two sides take
- * turns, all inputs are gone through PASSES times, and the time of an input is the least: other work on the machine lengthens
- * some passes and not others. A row has the ratio of the two medians over its inputs, and the largest ratio that one input has.
- * The row "empty" has a function that hands back its argument, to show what call and links cost. */
+ * For each input both functions are called CALLS times in a row, each call through a pointer. For the latency each
+ * argument waits for the last answer, by a product and a sum that both sides pay; for the throughput it does not. The
+ * two sides take turns, all inputs are gone through PASSES times, and the time of an input is the least: other work on
+ * the machine lengthens some passes and not others. A row has the ratio of the two medians over its inputs, and the
+ * largest ratio that one input has. The row "empty" has a function that hands back its argument, to show what call and
+ * links cost. */
 #include <math.h>
 #include <stdint.h>
 #include <stdio.h>
@@ -106,7 +107,8 @@ static struct outcome compare(double measure(function *, double), function *ours
 static void row(const char *name, function *ours, const double *inputs, int n)
 {
     struct outcome l = compare(latency, ours, inputs, n), t = compare(throughput, ours, inputs, n);
-    printf("%-22s %5d %10.2f %10.2f %12.2f %10.2f   %a\n", name, n, l.median, l.worst, t.median, t.worst, l.worst_input);
+    printf("%-22s %5d %10.2f %10.2f ", name, n, l.median, l.worst);
+    printf("%12.2f %10.2f   %a\n", t.median, t.worst, l.worst_input);
 }
 
 int main(void)

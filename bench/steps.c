@@ -3,7 +3,7 @@
      steps table DEAREST TRIES SAMPLE..     the table, after so many tries a kind; the samples are held against it
      steps rate  DEAREST                    instructions a microsecond on this processor
      steps allow DEAREST LENS MICROSECONDS  how many steps a scan may have
-     steps seek  DEAREST SECONDS [SEED]     seeks longer, and prints lines for the file
+     steps seek  DEAREST SECONDS [SEED]     seeks longer, and prints steps for the file
 
    There are two counters. One has the processor stop before each instruction of the archive itself: what is printed is
    counted so. The other is a copy of the archive's code in which each straight piece adds its length to copy_count: ten
@@ -470,36 +470,54 @@ static void climb_all(int times) {
         for (int i = 0; i < times; i++) climb(&climbers[slot][i % CLIMBERS], slot);
 }
 
-/* The file of the dearest: a line has the kind's number, the passes made, and the patterns of the surface's numbers and
-   of the state's. */
+/* The file of the dearest: a step's words are the kind's number, the passes made, and the patterns of the surface's
+   numbers and of the state's. From # to the line's end is a remark. */
 
-static void write_line(const struct input *x) {
+enum { WORDS_A_LINE = 6 };
+
+static void write_step(const struct input *x) {
     struct input y = *x;
     printf("%u %u", number_of(x->slot), x->passes);
-    for (int i = 0; i < operands(&y); i++) printf(" %016llx", (unsigned long long)pattern(*operand(&y, i)));
+    for (int i = 0; i < operands(&y); i++)
+        printf("%s%016llx", i % WORDS_A_LINE ? " " : "\n  ", (unsigned long long)pattern(*operand(&y, i)));
     putchar('\n');
 }
 
-static int read_line(char *line, struct input *x) {
-    char *at = line;
-    unsigned kind = (unsigned)strtoul(at, &at, 10);
-    for (x->slot = 0; x->slot < SLOTS && number_of(x->slot) != kind; x->slot++) continue;
-    if (x->slot == SLOTS) return 0;
-    x->passes = (unsigned)strtoul(at, &at, 10);
-    for (int i = 0; i < operands(x); i++) *operand(x, i) = number(strtoull(at, &at, 16));
-    return *at == '\n';
+/* 1 for a word that is a whole number, 0 at the file's end, -1 for another word. */
+static int read_word(FILE *f, int base, uint64_t *whole) {
+    char word[20], *end;
+    while (fscanf(f, "%19s", word) == 1) {
+        if (word[0] != '#') {
+            *whole = strtoull(word, &end, base);
+            return *end == '\0' ? 1 : -1;
+        }
+        for (int c = 0; c != '\n' && c != EOF;) c = getc(f);
+    }
+    return 0;
 }
 
-/* Lines that begin with # are remarks. */
+/* What stands behind the kind. */
+static int read_step(FILE *f, uint64_t kind, struct input *x) {
+    uint64_t whole;
+    for (x->slot = 0; x->slot < SLOTS && number_of(x->slot) != kind; x->slot++) continue;
+    if (x->slot == SLOTS || read_word(f, 10, &whole) != 1) return 0;
+    x->passes = (unsigned)whole;
+    for (int i = 0; i < operands(x); i++) {
+        if (read_word(f, 16, &whole) != 1) return 0;
+        *operand(x, i) = number(whole);
+    }
+    return 1;
+}
+
 static int read_dearest(const char *path, void each(const struct input *)) {
-    char line[1024];
     FILE *f = fopen(path, "r");
-    int good = f != NULL;
-    while (good && fgets(line, sizeof line, f)) {
+    int good = f != NULL, found = good;
+    while (good && found) {
         struct input x = {0};
-        if (line[0] == '#') continue;
-        good = read_line(line, &x);
-        if (good) each(&x);
+        uint64_t kind;
+        found = read_word(f, 10, &kind);
+        good = found == 0 || (found == 1 && read_step(f, kind, &x));
+        if (good && found) each(&x);
     }
     if (f) fclose(f);
     if (!good) fprintf(stderr, "steps: cannot read %s\n", path);
@@ -703,7 +721,7 @@ static int seek(double time, uint64_t from) {
     while (microseconds() < end) climb_all(1000);
     for (int slot = 0; slot < SLOTS; slot++) {
         printf("# %s%s, %d\n", kind_of(slot)->name, slot % 2 ? " mirror" : "", (int)step_counted(&dearest[slot].at));
-        write_line(&dearest[slot].at);
+        write_step(&dearest[slot].at);
     }
     printf("# %.1f million inputs were tried\n", 1e-6 * (double)tries);
     return failed;

@@ -1,11 +1,12 @@
-"""Builds the oracle, asks it or another program that reads the same questions, and tells what document 01 makes of its answers."""
+"""Builds the oracle, asks it or another program that reads the same questions, and tells what SCOPE makes of its
+answers."""
 import os
 import subprocess
 import sys
 from pathlib import Path
 
 from fixed import SPACED, UNREADABLE, WORKED, is_written
-from floats import number
+from floats import of_pattern
 from limits import LIMITS, around
 from operations import is_intersection, line
 from rules import expected
@@ -40,20 +41,23 @@ def ask(command, lines):
 
 
 def with_directions_of_rust(oracle, questions):
-    """The same questions, their rays with the direction that Rust's `Ray::new` makes of theirs, where it does not refuse."""
-    rays = ask(oracle, [line(("ray_new", operands[:6])) for operation, operands in questions if is_intersection(operation)])
-    made = iter(rays)
+    """The same questions, their rays with the direction that Rust's `Ray::new` makes of theirs, where it does not
+    refuse."""
+    rays = [operands[:6] for operation, operands in questions if is_intersection(operation)]
+    made = iter(ask(oracle, [line(("ray_new", ray)) for ray in rays]))
     for operation, operands in questions:
         told = next(made) if is_intersection(operation) else ""
         turned = told.startswith("1 ")
-        yield operation, [*map(number, told.split()[1:]), *operands[6:]] if turned else operands
+        yield operation, [*map(of_pattern, told.split()[1:]), *operands[6:]] if turned else operands
 
 
 def wanted(oracle, asked):
-    """For each question and its line Rust's answer, document 01's, and the listed difference between them. A line without a
-    question cannot be read."""
-    told = ask(oracle, [text for _, text in asked])
-    answers = [(rust, *(expected(question, rust) if question else ("?", None))) for (question, _), rust in zip(asked, told)]
+    """For each question and its line Rust's answer, SCOPE's, and the listed difference between them. A line
+    without a question cannot be read."""
+    answers = []
+    for (question, _), rust in zip(asked, ask(oracle, [text for _, text in asked])):
+        answer, group = expected(question, rust) if question else ("?", None)
+        answers.append((rust, answer, group))
     for (_, text), (rust, answer, _) in zip(asked, answers):
         if (answer == "?") != (rust == "?"):
             sys.exit(f"the oracle answers {rust} to: {text}")

@@ -1,4 +1,5 @@
-"""Drives the reference for whole traces, or another program that reads the same scripts, and holds it to the written replies."""
+"""Drives the reference for whole traces, or another program that reads the same scripts, and holds it to the written
+replies."""
 import sys
 
 from asking import written_by
@@ -19,7 +20,8 @@ def is_written(reply, written):
 
 
 def checked(reference, scripts):
-    """The lines of scripts with written replies, once the reference has replied as is written, and which of them have replies."""
+    """The lines of scripts with written replies, once the reference has replied as is written, and which of them have
+    replies."""
     steps = [step for script in scripts for step in script]
     asked = [step for step in steps if step[1] is not None]
     given = replied(reference, [line for line, _ in steps])

@@ -1,10 +1,11 @@
-"""Draws scripts: lenses and chains of surfaces, whole and in parts, damaged recipes, bad rays, short rooms and forged states."""
+"""Draws scripts: lenses and chains of surfaces, whole and in parts, damaged recipes, bad rays, short rooms and forged
+states."""
 import math
 import struct
 
 from operations import SEMI
 from rays import Rays
-from recipes import KINDS, LENSES, LIMITS, bytes_of, places, recipe, record
+from recipes import KINDS, LENSES, LIMITS, MIRROR, bytes_of, places, recipe, record
 from scripts import MOST, WIDTH, continue_line, recipe_line, room_line, start_line, state_line
 
 # how often each sort is drawn in a hundred
@@ -36,7 +37,8 @@ class Scripts(Rays):
 
     def beam(self, name):
         surfaces, z, width, steep = LENSES[name]
-        angle, r, slope = self.uniform(0, 2 * math.pi), width * math.sqrt(self.uniform(0, 1.4)), steep * self.uniform(-1, 1)
+        angle, r = self.uniform(0, 2 * math.pi), width * math.sqrt(self.uniform(0, 1.4))
+        slope = steep * self.uniform(-1, 1)
         length = self.choice([1.0, math.hypot(1.0, slope), self.uniform(0.5, 2)])
         return surfaces, [r * math.cos(angle), r * math.sin(angle) + z * slope, z, 0.0, slope / length, 1.0 / length]
 
@@ -93,7 +95,7 @@ class Scripts(Rays):
     def wrong_record(self, surface):
         data = record(*surface)
         kind, vertex, index, numbers, mirror = surface
-        number, own = KINDS[kind] + 256 * mirror, [vertex, index, *numbers]
+        number, own = KINDS[kind] + MIRROR * mirror, [vertex, index, *numbers]
         unbounded = list(own)
         unbounded[self.random.randrange(len(own))] = self.choice([math.nan, math.inf, -math.inf])
         negative = list(own)
@@ -134,7 +136,8 @@ class Scripts(Rays):
         surfaces = self.behind(first, ray)
         enough = WIDTH * len(surfaces)
         rooms = [room_line(self.choice([0, 12, 13, enough - 1, enough, enough + 5])) for _ in range(2)]
-        begun = [recipe_line(recipe(surfaces)), rooms[0], start_line(ray, self.choice([1.0, 1.0, 0.0])), continue_line(1)]
+        start = start_line(ray, self.choice([1.0, 1.0, 0.0]))
+        begun = [recipe_line(recipe(surfaces)), rooms[0], start, continue_line(1)]
         return [*begun, rooms[1], continue_line(self.choice([0, 1, 7])), start_line(ray), continue_line()]
 
     def standing(self):
@@ -145,7 +148,8 @@ class Scripts(Rays):
         surfaces = [*before, *self.behind(first, ray)]
         number, limit = len(before), LIMITS[first[0]]
         vertex_plane = (first[1] - ray[2]) / ray[5] if ray[5] else 0.0
-        t = self.choice([0.0, -0.0, math.nan, math.inf, vertex_plane, vertex_plane, self.uniform(-5, 60), self.hostile()])
+        ways = [0.0, -0.0, math.nan, math.inf, vertex_plane, vertex_plane, self.uniform(-5, 60), self.hostile()]
+        t = self.choice(ways)
         state = dict(
             number=number,
             place=places(surfaces)[number],
@@ -164,7 +168,8 @@ class Scripts(Rays):
         return surfaces, state
 
     def taken_up(self, surfaces, state):
-        begun = [recipe_line(recipe(surfaces)), room_line(self.room(surfaces)), *self.choice([[], [start_line(state["ray"])]])]
+        begun = [recipe_line(recipe(surfaces)), room_line(self.room(surfaces))]
+        begun += self.choice([[], [start_line(state["ray"])]])
         parts = [self.choice([0, 1, 2, 7, 35]) for _ in range(self.random.randrange(4))]
         return [*begun, state_line(**state), *map(continue_line, [*parts, MOST])]
 

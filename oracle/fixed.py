@@ -1,17 +1,22 @@
-"""What is asked every time: questions with the answers that document 01 gives them, and lines that cannot be read."""
-from floats import LARGEST, SMALLEST, word
+"""What is asked every time: questions with the answers that SCOPE gives them, and lines that cannot be read."""
+import math
+
+from floats import LARGEST, SMALLEST, pattern
 from operations import line
 
-INFINITY = float("inf")
-NAN = float("nan")
+INFINITY, NAN = math.inf, math.nan
 UP = [0.0, 0.0, 1.0]
 DOWN = [0.0, 0.0, -1.0]
 STEP = 2.0**-52
 VERTEX_FROM_THE_FRONT = [0.0, 0.0, 0.0, *DOWN, 1.0]
+# a ray whose first move is small, and leads far aside
+FLAT_AND_FAST = [0.0, 0.0, 2.0**-30, 2.0**50, 0.0, 2.0**20]
+# a ray, and the vertex, c and k of a surface that it meets at an infinite z
+FAR_OUT = [2.0**510, 0.0, LARGEST, 0.0, 0.0, 2.0**1020, LARGEST, 2.0**-40, -1.0]
 
-# Operation, operands, and the answer: its number and values, or the number alone where document 01 has no values.
+# Operation, operands, and the answer: its number and values, or the number alone where SCOPE has no values.
 WORKED = [
-    # both sides of each edge, as document 01 lists them
+    # both sides of each edge, as SCOPE lists them (E1 to E7)
     ("conic_sag", [4.0, 1 / 8, -1.0], [1, 1.0]),
     ("conic_sag", [1.0, 1.0, 0.0], [1, 1.0]),
     ("conic_sag", [1 + STEP, 1.0, 0.0], [5]),
@@ -35,8 +40,8 @@ WORKED = [
     ("conic_intersect", [-4.0, -8.0, 4.0, 1.0, 2.0, 0.0, 0.0, 1 / 4, 0.0, 100.0], [5]),
     # ports that look right: the smaller root is the other sheet's; no aperture check at the even asphere's second exit
     ("conic_intersect", [0.0, 0.0, -5.0, *UP, 0.0, 1.0, -2.0, 10.0], [1, 5.0, *VERTEX_FROM_THE_FRONT]),
-    ("even_intersect", [0.0, 0.0, 2.0**-30, 2.0**50, 0.0, 2.0**20, 0.0, 0.0, 0.0, 0.5], [1, -(2.0**-50), -1.0, 0.0, 0.0]),
-    ("biconic_intersect", [0.0, 0.0, 2.0**-30, 2.0**50, 0.0, 2.0**20, 0.0, 0.0, 0.0, 0.0, 0.0, 0.5], [7, 1.0, 0.5]),
+    ("even_intersect", [*FLAT_AND_FAST, 0.0, 0.0, 0.0, 0.5], [1, -(2.0**-50), -1.0, 0.0, 0.0]),
+    ("biconic_intersect", [*FLAT_AND_FAST, 0.0, 0.0, 0.0, 0.0, 0.0, 0.5], [7, 1.0, 0.5]),
     # numbers; a root and a clamp keep -0.0, and so does Newton's start; a maximum of mixed zeros is +0.0
     ("sqrt", [-0.0], [1, -0.0]),
     ("clamp", [-0.0], [1, -0.0]),
@@ -55,7 +60,11 @@ WORKED = [
     ("even_intersect", [0.0, 0.0, 0.0, *DOWN, 0.0, 0.0, 0.0, 1.0], [1, -0.0, 0.0, 0.0, 0.0]),
     ("conic_intersect", [0.0, 0.0, 0.0, *UP, 0.0, 0.0, 0.0, 1.0], [1, 0.0, *VERTEX_FROM_THE_FRONT]),
     # the debug assertions of unit length do not exist
-    ("conic_intersect", [0.0, 0.0, -5.0, 0.0, 0.0, 2.0**600, 0.0, 0.0, 0.0, 1.0], [1, 5 * 2.0**-600, *VERTEX_FROM_THE_FRONT]),
+    (
+        "conic_intersect",
+        [0.0, 0.0, -5.0, 0.0, 0.0, 2.0**600, 0.0, 0.0, 0.0, 1.0],
+        [1, 5 * 2.0**-600, *VERTEX_FROM_THE_FRONT],
+    ),
     # numbers that are not finite inside run on as in Rust
     ("biconic_intersect", [1.0, 0.0, 5e307, *UP, 0.0, 1e308, -1.0, 0.0, 0.0, 9.0], [1, 0.0, 1.0, 0.0, 5e307]),
     ("even_intersect", [0.0, 0.0, 1e-10, 1e200, 0.0, 1e3, 0.0, 0.0, 0.0, 10.0], [1]),
@@ -121,17 +130,17 @@ WORKED = [
     ("even_paraxial", [LARGEST, 0.0, 10.0, LARGEST], [9]),
     ("even_sag", [2.0, 0.0, 0.0, 10.0, LARGEST], [9]),
     ("even_derivative", [2.0, 0.0, 0.0, 10.0, LARGEST], [9]),
-    ("even_intersect", [2.0**510, 0.0, LARGEST, 0.0, 0.0, 2.0**1020, LARGEST, 2.0**-40, -1.0, 2.0**511], [9]),
+    ("even_intersect", [*FAR_OUT, 2.0**511], [9]),
     ("odd_sag", [2.0, 0.0, 0.0, 10.0, 0, LARGEST], [9]),
     ("odd_normal", [2.0, 0.0, 0.0, 0.0, 10.0, 1, LARGEST], [9]),
     ("biconic_sag", [2.0, 0.0, LARGEST, -1.0, 0.0, 0.0, 10.0], [9]),
     ("biconic_derivatives", [1.0, 0.0, 1e308, -1.0, 0.0, 0.0, 9.0], [9]),
     ("biconic_normal", [1.0, 0.0, 1e308, -1.0, 0.0, 0.0, 9.0], [9]),
-    ("biconic_intersect", [2.0**510, 0.0, LARGEST, 0.0, 0.0, 2.0**1020, LARGEST, 2.0**-40, -1.0, 0.0, 0.0, 2.0**511], [9]),
+    ("biconic_intersect", [*FAR_OUT, 0.0, 0.0, 2.0**511], [9]),
     ("toroid_sag", [0.0, 0.0, 1e200, 0.0, 0.0, 10.0], [9]),
 ]
 
-FOUR = word(4.0)
+FOUR = pattern(4.0)
 THREE_FOURS = " ".join([FOUR] * 3)
 SPACED = [(("max", [4.0, 4.0]), f"max   {FOUR.lower()}  {FOUR}")]
 UNREADABLE = [
@@ -168,4 +177,4 @@ LONG = [(("sqrt", [4.0]), f"sqrt{' ' * 131_000}{FOUR}"), (None, f"sqrt{' ' * 132
 def is_written(answer, written):
     """Whether an answer is the one that WORKED has."""
     number, *values = written
-    return answer.split()[0] == str(number) and (not values or answer.split()[1:] == [*map(word, values)])
+    return answer.split()[0] == str(number) and (not values or answer.split()[1:] == [*map(pattern, values)])

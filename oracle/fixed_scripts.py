@@ -1,19 +1,18 @@
-"""Scripts with the replies that document 01 gives them, and lines that cannot be read.
+"""Scripts with the replies that SCOPE gives them, and lines that cannot be read.
 
-A step is a line and what its reply has to tell: number and place, and then, if written, all steps and the outcome; or the whole
-reply as lines. None stands beside a line without a reply, "?" beside one that cannot be read."""
+A step is a line and what its reply has to tell: number and place, and then, if written, all steps and the outcome; or
+the whole reply as lines. None stands beside a line without a reply, "?" beside one that cannot be read."""
 import struct
 
-from floats import LARGEST, SMALLEST, word
+from fixed import DOWN, FLAT_AND_FAST, FOUR, INFINITY, NAN, UP
+from floats import LARGEST, SMALLEST, pattern
 from operations import SEMI
 from recipes import LIMITS, RELAY, SAMPLES, bytes_of, places, recipe, record
 from scripts import WIDTH, continue_line, recipe_line, room_line, start_line, state_line, words
 
-INFINITY = float("inf")
-NAN = float("nan")
-UP = [0.0, 0.0, 1.0]
-DOWN = [0.0, 0.0, -1.0]
 AXIS = [0.0, 0.0, -5.0, *UP]
+# to a vertex at 1e308 from here is no finite way
+TOO_FAR = [0.0, 0.0, -1e308, *UP]
 
 
 def plane(z=0.0, index=1.0, semi=10.0, mirror=False):
@@ -41,7 +40,8 @@ def bump(semi):
 
 def hit(state, record):
     """The whole reply to a first step that hits the only surface."""
-    return (continue_line(1), ["continue 1 0", state_line(**DONE_AFTER_ONE | state), f"record 0 {words([1.0, *record, 1.0])}"])
+    row = f"record 0 {words([1.0, *record, 1.0])}"
+    return (continue_line(1), ["continue 1 0", state_line(**DONE_AFTER_ONE | state), row])
 
 
 DONE_AFTER_ONE = dict(number=1, place=44, passes=0, t=0.0, steps=1, outcome=1)
@@ -62,7 +62,7 @@ SIGNS = [
 ]
 
 TRACES = [
-    # document 01's edges
+    # SCOPE's edges (E1 to E7)
     traced(bump(5.0), [4.0, 0.0, -1.0, *UP], "2 1", cuts=[(0, "0 0"), (1, "1 0")]),
     traced(bump(3.0), [4.0, 0.0, -1.0, *UP], "2 7", cuts=[(1, "1 0"), (1, "2 7"), (1, "2 7")]),
     traced(bump(2.0), [4.0, 0.0, -1.0, *UP], "1 6", cuts=[(1, "1 6")]),
@@ -73,15 +73,15 @@ TRACES = [
     traced([("conic", 0.0, 1.0, [1.0, 0.0, 10.0])], [-1.0, 0.0, 0.0, 1.0, 0.0, 0.0], "1 1"),
     # ports that look right: the other sheet's root, and the even asphere's second exit beside the biconic's
     traced([("conic", 0.0, 1.0, [1.0, -2.0, 10.0])], AXIS, "1 1"),
-    traced([("even", 0.0, 1.0, [0.0, 0.0, 0.5])], [0.0, 0.0, 2.0**-30, 2.0**50, 0.0, 2.0**20], "1 1"),
-    traced([("biconic", 0.0, 1.0, [0.0, 0.0, 0.0, 0.0, 0.5])], [0.0, 0.0, 2.0**-30, 2.0**50, 0.0, 2.0**20], "1 7"),
+    traced([("even", 0.0, 1.0, [0.0, 0.0, 0.5])], FLAT_AND_FAST, "1 1"),
+    traced([("biconic", 0.0, 1.0, [0.0, 0.0, 0.0, 0.0, 0.5])], FLAT_AND_FAST, "1 7"),
     # numbers that are not finite run on inside: 4 from a normal, 2 from an infinite r, and all passes of a toroid
     traced([("biconic", 0.0, 1.0, [1e308, -1.0, 0.0, 0.0, 9.0])], [1.0, 0.0, 5e307, *UP], "1 4"),
     traced([("biconic", 0.0, 1.0, [1e308, -1.0, 0.0, 0.0, 9.0], True)], [1.0, 0.0, 5e307, *UP], "1 4"),
     traced([("even", 0.0, 1.0, [0.0, 0.0, 10.0])], [0.0, 0.0, 1e-10, 1e200, 0.0, 1e3], "1 2"),
-    traced([("toroid", 1e308, 1.0, [5.0, 0.0, 0.0, 10.0])], [0.0, 0.0, -1e308, *UP], "35 6", cuts=[(34, "34 0"), (1, "35 6")]),
-    traced([("even", 1e308, 1.0, [0.0, 0.0, 10.0])], [0.0, 0.0, -1e308, *UP], "1 6"),
-    traced([("biconic", 1e308, 1.0, [0.0, 0.0, 0.0, 0.0, 10.0])], [0.0, 0.0, -1e308, *UP], "1 6"),
+    traced([("toroid", 1e308, 1.0, [5.0, 0.0, 0.0, 10.0])], TOO_FAR, "35 6", cuts=[(34, "34 0"), (1, "35 6")]),
+    traced([("even", 1e308, 1.0, [0.0, 0.0, 10.0])], TOO_FAR, "1 6"),
+    traced([("biconic", 1e308, 1.0, [0.0, 0.0, 0.0, 0.0, 10.0])], TOO_FAR, "1 6"),
     # 4 of the slope, 5 of the normal, 6 and 7 at the second surface, 7 with an infinite r, 8, which a mirror has not
     traced([("even", 0.0, 1.0, [0.0, 0.0, 10.0, 1 / 8])], [4.0, 0.0, 3.0, 1.0, 0.0, 1.0], "1 4"),
     traced([("conic", 0.0, 1.0, [0.25, 0.0, 100.0])], [-4.0, -8.0, 4.0, 1.0, 2.0, 0.0], "1 5"),
@@ -92,7 +92,7 @@ TRACES = [
     traced([plane()], [0.0, 0.0, -1.0, 0.8, 0.0, 0.6], "1 8", index=2.0),
     traced([plane(mirror=True)], [0.0, 0.0, -1.0, 0.8, 0.0, 0.6], "1 1", index=2.0),
     # 9: t and point; the path alone; the direction alone
-    traced([plane(1e308)], [0.0, 0.0, -1e308, *UP], "1 9"),
+    traced([plane(1e308)], TOO_FAR, "1 9"),
     traced([plane(1e308, mirror=True), plane(-7e307)], [0.0, 0.0, 0.0, *UP], "2 9"),
     traced([plane(index=2.0**-600)], AXIS, "1 9", index=2.0**600),
     traced([plane(index=2.0**-600, mirror=True)], AXIS, "1 1", index=2.0**600),
@@ -134,6 +134,11 @@ def spoilt(surface, **changes):
     return record(kind, changes.get("vertex", vertex), changes.get("index", index), numbers, *mirror)
 
 
+def negative(surface):
+    """With a semi-diameter just below 0."""
+    return spoilt(surface, own=(SEMI[surface[0]], -SMALLEST))
+
+
 DAMAGED = [
     *((behind(record(*PLANE)[:n]), 10, AFTER) for n in (1, 3, 4, 11, 43)),
     (record(*PLANE)[:-1], 10, 0),
@@ -148,7 +153,7 @@ DAMAGED = [
     *((behind(spoilt(s, index=INFINITY)), 2, AFTER) for s in EACH_KIND[2:]),
     *((behind(spoilt(s, own=(0, -INFINITY))), 2, AFTER) for s in EACH_KIND[1:3]),
     *((behind(spoilt(s, own=(-1, NAN))), 2, AFTER) for s in EACH_KIND),
-    *((behind(spoilt(s, own=(SEMI[s[0]], -SMALLEST))), 3 if s[0] == "conic" else 2, AFTER) for s in EACH_KIND + OTHER_MIRRORS),
+    *((behind(negative(s)), 3 if s[0] == "conic" else 2, AFTER) for s in EACH_KIND + OTHER_MIRRORS),
     *((behind(spoilt(s, index=0.0)), 4, AFTER) for s in EACH_KIND),
     (behind(spoilt(PLANE, index=-0.0)), 4, AFTER),
     (behind(spoilt(TOROID, index=-1.5)), 4, AFTER),
@@ -204,7 +209,8 @@ def rooms():
         yield [*given(two, room), (start_line(AXIS), "11 0 0 11"), (continue_line(), "11 0 0 11")]
     # start blanks all of it, refused or not; a refused continuation leaves it
     yield [*given(two, 30), (start_line([*AXIS[:5], NAN]), "2 0 0 2")]
-    yield [*given(two, 15), (continue_line(3), "11 0 0 2"), (recipe_line(recipe([PLANE])), None), (continue_line(3), "12 0 0 2")]
+    left = [*given(two, 15), (continue_line(3), "11 0 0 2")]
+    yield [*left, (recipe_line(recipe([PLANE])), None), (continue_line(3), "12 0 0 2")]
     # records that were written before the room was new are not written again, and 11 comes before 12
     begun = [*given(two), (start_line(AXIS), "1 0 0 0"), on[0], (room_line(29), None), on[1]]
     yield [*begun, (room_line(25), None), (continue_line(), "11 0 2 1")]
@@ -215,12 +221,22 @@ def rooms():
 STAND = [PLANE, ("even", 10.0, 1.5, [0.01, 0.0, 10.0, 1e-3]), ("toroid", 20.0, 1.0, [50.0, 0.01, 0.0, 10.0])]
 PLACES = places(STAND)
 LIMIT = sum(LIMITS[surface[0]] for surface in STAND)
-ON_EVEN = dict(number=1, place=PLACES[1], passes=0, t=0.0, ray=[0.5, 0.0, 1.0, *UP], index=2.0, path=7.0, steps=5, outcome=0)
+ON_EVEN = dict(
+    number=1,
+    place=PLACES[1],
+    passes=0,
+    t=0.0,
+    ray=[0.5, 0.0, 1.0, *UP],
+    index=2.0,
+    path=7.0,
+    steps=5,
+    outcome=0,
+)
 ON_TOROID = ON_EVEN | dict(number=2, place=PLACES[2])
 ON_PLANE = ON_EVEN | dict(number=0, place=0, ray=AXIS)
 DONE = ON_EVEN | dict(number=3, place=PLACES[3], outcome=1)
 
-# A state, and a change of it for which document 01 gives 12.
+# A state, and a change of it for which SCOPE gives 12 (C5).
 FORGED_WRONG = [
     *((ON_EVEN, dict(outcome=n)) for n in (1, 3, 10, 12, 255)),
     *((DONE, dict(number=n)) for n in (2, 4, 2**32 + 3)),
@@ -243,7 +259,8 @@ FORGED_WRONG = [
     *((DONE, dict(path=NAN)), (DONE, dict(index=0.0))),
 ]
 
-# A state, a change of it that is accepted, the steps allowed, and then all steps and the outcome. No surface ends by these,
+# A state, a change of it that is accepted, the steps allowed, and then all steps and the outcome.
+# No surface ends by these,
 FORGED_ON = [
     *((ON_EVEN, dict(outcome=n), 9, f"5 {n}") for n in (2, 4, 5, 6, 7, 8, 9)),
     (ON_EVEN, dict(outcome=6, t=NAN), 1, "5 6"),
@@ -310,13 +327,13 @@ def longest():
     """512 records, near whose end a trace is taken up; and one more behind them."""
     at = places(RELAY)
     near = state_line(509, at[509], 0, 0.0, [1.0, 2.0, 2.0 * 509 - 1, *UP], 1.5, 1000.0, 509, 0)
-    begun = [(recipe_line(recipe(RELAY)), None), (room_line(6655), None), (start_line(AXIS), "11 0 0 11"), (room_line(6656), None)]
-    taken_up = [(near, None), (continue_line(2), "1 0 511 0"), (continue_line(0), "1 0 511 0"), (continue_line(), "1 0 512 1")]
+    begun = [*given(RELAY, 6655), (start_line(AXIS), "11 0 0 11"), (room_line(6656), None)]
+    taken_up = [(near, None), (continue_line(2), "1 0 511 0"), (continue_line(0), "1 0 511 0")]
+    ended = (continue_line(), "1 0 512 1")
     behind_it = [(recipe_line(recipe([*RELAY, PLANE])), None), (continue_line(1), f"10 {at[512]} 512 1")]
-    return [*begun, (start_line([1.0, 2.0, -5.0, *UP]), "1 0 0 0"), *taken_up, *behind_it]
+    return [*begun, (start_line([1.0, 2.0, -5.0, *UP]), "1 0 0 0"), *taken_up, ended, *behind_it]
 
 
-FOUR = word(4.0)
 STATE = state_line(0, 0, 0, 0.0, AXIS, 1.0, 0.0, 0, 0)
 UNREADABLE = [
     "",
@@ -379,14 +396,15 @@ UNREADABLE = [
 def unreadable():
     """Nothing happens to the station meanwhile; and lines that are written otherwise and can be read."""
     begun = [*given([PLANE, PLANE], 27), (start_line(AXIS), "1 0 0 0"), (continue_line(1), "1 0 1 0")]
+    full = state_line(2**64 - 1, 2**64 - 1, 65535, NAN, [NAN] * 6, NAN, -INFINITY, 2**64 - 1, 255)
     spaced = [
         (f"  recipe   {recipe([PLANE, plane(index=1.5)]).hex()}  ", None),
         (" room  0027", None),
-        (f"start {' '.join(word(x) for x in AXIS).lower()}  {word(2.0)} ", "1 0 0 0"),
+        (f"start {words(AXIS).lower()}  {pattern(2.0)} ", "1 0 0 0"),
         ("continue 000000000000000000000000000001", "1 0 1 0"),
         (STATE.lower().replace("state 0 0", "state  000 0").replace("state", " state"), None),
         (" continue 65535", "1 0 2 1"),
-        (state_line(2**64 - 1, 2**64 - 1, 65535, NAN, [NAN] * 6, NAN, -INFINITY, 2**64 - 1, 255).replace("7FF8", "FFFA"), None),
+        (full.replace("7FF8", "FFFA"), None),
         ("continue 65535", f"12 0 {2**64 - 1} 255"),
         ("room 8192", None),
         ("recipe  ", None),

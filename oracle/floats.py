@@ -1,28 +1,14 @@
-"""Binary64 numbers as bits, as hex words and as their neighbours."""
+"""Binary64 numbers: their bits and patterns, which are those of tools/, and their neighbours."""
 import math
-import struct
+import sys
+from pathlib import Path
 
-NAN_WORD = "7FF8000000000000"
-PLUS_ZERO, MINUS_ZERO = "0" * 16, "8" + "0" * 15
+sys.path.insert(0, str(Path(__file__).resolve().parent.parent / "tools"))
+from numerals import bits_of, of_bits, of_pattern, pattern
+
+PLUS_ZERO, MINUS_ZERO = pattern(0.0), pattern(-0.0)
 LARGEST = math.nextafter(math.inf, 0.0)
 SMALLEST = math.nextafter(0.0, 1.0)
-
-
-def bits_of(x):
-    return struct.unpack(">Q", struct.pack(">d", x))[0]
-
-
-def float_of(bits):
-    return struct.unpack(">d", struct.pack(">Q", bits))[0]
-
-
-def word(x):
-    """Sixteen hex digits; a NaN keeps its own."""
-    return struct.pack(">d", x).hex().upper()
-
-
-def number(text):
-    return struct.unpack(">d", bytes.fromhex(text))[0]
 
 
 def steps_from(x, steps):

@@ -1,11 +1,13 @@
-"""Each limit that the Rust text tests: a question with the limit in place of X, and with the number below it and the one above."""
+"""Each limit that the Rust text tests: a question with the limit in place of X, and with the number below it and the
+one above."""
 import math
 
+from fixed import UP
 from floats import LARGEST, steps_from
 
 X = "the limit"
-UP = [0.0, 0.0, 1.0]
-# A curvature and a conic constant whose products round, so that their order is felt; where the radicand passes 0 and -1e-12.
+# A curvature and a conic constant whose products round, so that their order is felt; where the radicand passes 0 and
+# -1e-12.
 BOWL = [0.2, -0.3]
 TURN, RIM = 5.976143046671968, 5.976143046674956
 # moves of 1e-12 from a height of 2^-30; slopes of 1 and 3/4 but for 1e-15
@@ -104,8 +106,8 @@ LIMITS = [
     ("toroid_derivatives", [0.4, X, 5.0, *BOWL, 10.0], RIM, "115"),
     ("toroid_sag", [0.0, 1.0, X, 1 / 4, -1.0, 10.0], 0.0, "111"),
     ("toroid_derivatives", [0.0, 1.0, X, 1 / 4, -1.0, 10.0], 0.0, "111"),
-    # Newton: dz, 1.5 of the semi-diameter, residual, r, f' twice, move, r at the second exit (but for the even asphere, which
-    # tests r for its slope), and last, found by halving, what is still hit in the last pass
+    # Newton: dz, 1.5 of the semi-diameter, residual, r, f' twice, move, r at the second exit (but for the even asphere,
+    # which tests r for its slope), and last, found by halving, what is still hit in the last pass
     ("even_intersect", [0.0, 0.0, 0.0, 0.0, 0.0, X, 0.0, 0.0, 0.0, 10.0], 1e-15, "611"),
     ("even_intersect", [X, 0.0, -5.0, *UP, 0.0, 0.0, 0.0, 10.0], 15.0, "776"),
     ("even_intersect", [0.0, 0.0, X, *UP, 0.0, 0.0, 0.0, 10.0], 1e-11, "111"),

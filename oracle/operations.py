@@ -2,7 +2,7 @@
 
 A question is an operation and a list of operands: floats, and an int for a `#n`.
 """
-from floats import word
+from floats import pattern
 
 NUMBERS = ["sqrt", "abs", "max", "clamp", "finite"]
 TURNS = ["reflect", "refract"]
@@ -21,7 +21,7 @@ SEMI = {"conic": 2, "even": 2, "odd": 2, "biconic": 4, "toroid": 3}
 
 def line(question, case=str.upper):
     operation, operands = question
-    return " ".join([operation, *(f"#{x}" if type(x) is int else case(word(x)) for x in operands)])
+    return " ".join([operation, *(f"#{x}" if type(x) is int else case(pattern(x)) for x in operands)])
 
 
 def is_intersection(operation):

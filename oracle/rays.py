@@ -1,4 +1,5 @@
-"""Draws rays that meet a surface. Each is given as the ray's six numbers, the surface's vertex z and its other numbers."""
+"""Draws rays that meet a surface. Each is given as the ray's six numbers, the surface's vertex z and its other
+numbers."""
 import math
 
 from operations import SEMI
@@ -18,7 +19,8 @@ class Rays(Surfaces):
 
     def meetings(self, kind):
         """All ways to draw one at an edge."""
-        ways = [self.in_one_move, self.stretched, self.overflown, self.at_the_stop, self.straight, self.passed, self.level]
+        ways = [self.in_one_move, self.stretched, self.overflown, self.at_the_stop]
+        ways += [self.straight, self.passed, self.level]
         if kind == "conic":
             return [*ways, self.other_sheet, self.on_the_axis, self.equator]
         ways += [self.along_the_slope, self.last_move, self.many_passes]
@@ -97,7 +99,8 @@ class Rays(Surfaces):
         return [0.0, 0.0, z, 0.0, 0.0, dz], 0.0, [c, 0.0, 10.0]
 
     def equator(self, conic):
-        """Where an ellipsoid turns back: met from the side, or from inside on the farther half about 1e-4 from the sag."""
+        """Where an ellipsoid turns back: met from the side, or from inside on the farther half about 1e-4 from the
+        sag."""
         c, k, vertex = 1 / self.uniform(1, 50), self.choice([0.0, self.uniform(-0.9, 1)]), self.vertex()
         r, z = 1 / (c * math.sqrt(1 + k)), vertex + 1 / ((1 + k) * c)
         if self.one_in(2):

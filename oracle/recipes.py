@@ -1,13 +1,14 @@
 """Lenses for scripts, and recipes as bytes.
 
-A surface is its kind, its vertex z, the index after it, its other numbers in the record's order, and whether it is a mirror."""
+A surface is its kind, its vertex z, the index after it, its other numbers in the record's order, and whether it is a
+mirror."""
 import sys
 from pathlib import Path
 
 TOP = Path(__file__).resolve().parent.parent
 sys.path.insert(0, str(TOP / "tools"))
 from prescription import read
-from records import SHAPES, bytes_of, places, recipe, record
+from records import MIRROR, SHAPES, bytes_of, places, recipe, record, record_at
 
 KINDS = {kind: shape.kind for kind, shape in SHAPES.items()}
 LIMITS = {kind: shape.steps for kind, shape in SHAPES.items()}

@@ -1,8 +1,9 @@
-"""Questions for the square root, most of them where a root is hard to round, and a check of its answers by whole numbers."""
+"""Questions for the square root, most of them where a root is hard to round, and a check of its answers by whole
+numbers."""
 import math
 from random import Random
 
-from floats import bits_of, float_of
+from floats import bits_of, of_bits
 
 SIGN = 1 << 63
 NORMAL = 1 << 52  # the smallest normal number, and the step from one exponent to the next
@@ -82,7 +83,8 @@ def normals():
 
 
 def square_root_modulo(c, k):
-    """An odd s with s * s = c modulo 2^k, for a c that is 1 modulo 8. The others are -s and both of these plus 2^(k-1)."""
+    """An odd s with s * s = c modulo 2^k, for a c that is 1 modulo 8. The others are -s and both of these plus
+    2^(k-1)."""
     s = 1
     for j in range(3, k):
         if (s * s - c) >> j & 1:
@@ -91,8 +93,8 @@ def square_root_modulo(c, k):
 
 
 def near_midpoints():
-    """x with 4 * x = s * s - c for an odd s of 54 digits: the root lies beside s / 2, midway between two floats, for a small c
-    as near as it can. x has 53 digits and then 52 or 53 zeros."""
+    """x with 4 * x = s * s - c for an odd s of 54 digits: the root lies beside s / 2, midway between two floats, for a
+    small c as near as it can. x has 53 digits and then 52 or 53 zeros."""
     found = []
     for c in [*range(-63, 66, 8), *((-1) ** k * 8 * draw(k) + 1 for k in range(4, 49))]:
         for k in (54, 55):
@@ -124,5 +126,5 @@ def questions():
     """Pairs of a question and its line; without a question, a line that cannot be read."""
     patterns = [*edges(), *near_one(), *powers_of_two(), *squares(), *subnormals_of_every_length()]
     patterns += [*any_patterns(), *normals(), *near_midpoints()]
-    readable = [(("sqrt", [float_of(b)]), f"sqrt {in_some_case(b)}") for b in patterns]
+    readable = [(("sqrt", [of_bits(b)]), f"sqrt {in_some_case(b)}") for b in patterns]
     return readable + [(None, f"sqrt {text}") for text in malformed()]

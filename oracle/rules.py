@@ -1,7 +1,7 @@
-"""What document 01 wants where it differs from the Rust text, from a question and the Rust text's answer alone."""
+"""What SCOPE wants where it differs from the Rust text (T8), from a question and the Rust text's answer alone."""
 import math
 
-from floats import MINUS_ZERO, PLUS_ZERO, number, word
+from floats import MINUS_ZERO, PLUS_ZERO, of_pattern, pattern
 from operations import NUMBERS, SEMI, is_intersection
 
 NOT_FINITE = "an argument is not finite"
@@ -39,10 +39,10 @@ def ruled(operation, operands, told):
     if kind in ("even", "odd") and most_coefficients(kind, operands[BEFORE[what] + 3 :]) > 8:
         return "2", COUNT
     if operation == "toroid_new" and abs(operands[0]) < 1e-12 and operands[SEMI[kind]] >= 0:
-        return " ".join(["1", *map(word, operands)]), TOROID
+        return " ".join(["1", *map(pattern, operands)]), TOROID
     if is_intersection(operation) and operands[7 + SEMI[kind]] < 0:
         return "3" if kind == "conic" else "2", NEGATIVE
-    if told.startswith("1 ") and not all(math.isfinite(number(value)) for value in told.split()[1:]):
+    if told.startswith("1 ") and not all(math.isfinite(of_pattern(value)) for value in told.split()[1:]):
         return "9", NINE
     return told, None
 
@@ -61,7 +61,7 @@ def settled(operation, operands, told):
         return f"1 {MINUS_ZERO if both_minus else PLUS_ZERO}"
     if operation == "conic_intersect" and told.startswith(f"1 {MINUS_ZERO}"):
         point = [o + 0.0 * d for o, d in zip(operands[:3], operands[3:6])]
-        return " ".join(["1", PLUS_ZERO, *map(word, point), *told.split()[5:]])
+        return " ".join(["1", PLUS_ZERO, *map(pattern, point), *told.split()[5:]])
     return told
 
 

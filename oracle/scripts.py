@@ -1,12 +1,12 @@
 """The lines of a script for the program `scans`, and what it replies to them."""
-from floats import word
+from floats import pattern
 
 WIDTH = 13
 MOST = 65535
 
 
 def words(numbers):
-    return " ".join(map(word, numbers))
+    return " ".join(map(pattern, numbers))
 
 
 def recipe_line(recipe):

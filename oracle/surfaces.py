@@ -2,7 +2,7 @@
 import math
 from random import Random
 
-from floats import LARGEST, SMALLEST, float_of, steps_from
+from floats import LARGEST, SMALLEST, of_bits, steps_from
 from operations import SEMI
 
 
@@ -58,13 +58,13 @@ class Surfaces:
     def hostile(self):
         draws = [
             lambda: self.signed(self.choice([0.0, SMALLEST, LARGEST])),
-            lambda: self.signed(float_of(self.random.getrandbits(52))),
+            lambda: self.signed(of_bits(self.random.getrandbits(52))),
             lambda: self.signed(self.size(150, 308)),
             lambda: self.signed(self.size(-320, -150)),
             lambda: self.signed(self.size(-20, 20)),
             lambda: self.choice([math.inf, -math.inf]),
-            lambda: float_of(0x7FF << 52 | self.random.getrandbits(1) << 63 | self.random.randrange(1, 1 << 52)),
-            lambda: float_of(self.random.getrandbits(64)),
+            lambda: of_bits(0x7FF << 52 | self.random.getrandbits(1) << 63 | self.random.randrange(1, 1 << 52)),
+            lambda: of_bits(self.random.getrandbits(64)),
         ]
         return self.choice(draws)()
 
@@ -148,5 +148,6 @@ class Surfaces:
         if kind == "biconic":
             x, y = self.choice([(1.0, self.beside(1e-6)), (1 - 2.0**-53, self.beside(math.sqrt(2.0**-52 - 1e-28), 6))])
             return [1.0, 0.0, 1.0, 0.0, 9.0], x, y
-        rx, x = self.choice([(0.0, self.beside(1e-6)), (self.beside(1e-7), self.choice([0.0, math.sqrt(math.ulp(1e-14))]))])
+        small_x, small_rx = self.beside(1e-6), self.beside(1e-7)
+        rx, x = self.choice([(0.0, small_x), (small_rx, self.choice([0.0, math.sqrt(math.ulp(1e-14))]))])
         return [rx, 0.0, 0.0, 9.0], x, 0.0

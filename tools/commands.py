@@ -16,7 +16,8 @@ class Refused(Exception):
 
 
 def command_line(name, description, notes):
-    return argparse.ArgumentParser(prog=name, description=description, epilog=notes, formatter_class=argparse.RawDescriptionHelpFormatter)
+    return argparse.ArgumentParser(prog=name, description=description, epilog=notes,
+                                   formatter_class=argparse.RawDescriptionHelpFormatter)
 
 
 def run(main):
@@ -78,13 +79,19 @@ def text_of(data, name):
     try:
         return data.decode("utf-8-sig").replace("\r\n", "\n").replace("\r", "\n")
     except UnicodeDecodeError as wrong:
-        raise Refused(f"{name}:{data[: wrong.start].count(10) + 1}: not text in UTF-8") from None
+        raise Refused(f"{name}:{line_at(data, wrong.start)}: not text in UTF-8") from None
+
+
+def line_at(data, place):
+    """The number of the line that a byte stands in."""
+    return data[:place].count(b"\n") + 1
 
 
 def located_text(data, name):
     """A text prescription with its lines."""
     if 0 in data:
-        raise Refused(f"{name}:{data[: data.index(0)].count(10) + 1}: a zero byte, which no text has: are these a recipe's bytes?")
+        line = line_at(data, data.index(0))
+        raise Refused(f"{name}:{line}: a zero byte, which no text has: are these a recipe's bytes?")
     try:
         return prescription.read(text_of(data, name))
     except prescription.BadText as wrong:

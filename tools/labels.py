@@ -29,8 +29,8 @@ class Labels:
             self.take_line([(x - arm, y + dy), (x + arm, y + dy)])
 
     def place(self, text, anchor, offsets):
-        """The middle of the label's foot: the first of the offsets from the anchor where it is free, or else the first. The line that
-        leads from the label to the anchor may cross other lines, but no label."""
+        """The middle of the label's foot: the first of the offsets from the anchor where it is free, or else the first.
+        The line that leads from the label to the anchor may cross other lines, but no label."""
         feet = [(anchor[0] + dx, anchor[1] + dy) for dx, dy in offsets]
         foot = next((foot for foot in feet if self.is_free(text, foot, anchor)), feet[0])
         self.boxes |= box(text, foot)
@@ -71,5 +71,6 @@ ABOVE = nearest_first([(dx, -dy) for dx in range(-72, 73, 6) for dy in range(8, 
 def around(text):
     """Beside a mark, to its right or left, or above or below it."""
     half = width_of(text) / 2
-    sides = [(side * (half + gap), dy) for side in (1, -1) for gap in (9, 18, 36, 60) for dy in (-8, 4, 20, -22, 36, -38, 54, -56)]
+    heights = (-8, 4, 20, -22, 36, -38, 54, -56)
+    sides = [(side * (half + gap), dy) for side in (1, -1) for gap in (9, 18, 36, 60) for dy in heights]
     return nearest_first([*sides, *((0, dy) for dy in (-14, 26, -30, 42, 60, -50))])

@@ -1,4 +1,4 @@
-"""What `tracelist` prints, read and held to document 01."""
+"""What `tracelist` prints, read and held to SCOPE (L1 to L3)."""
 import math
 import re
 from typing import List, NamedTuple, Optional, Tuple
@@ -11,7 +11,8 @@ SLOTS = 11
 
 
 class Record(NamedTuple):
-    """Of a surface that was hit or refused. A refused one has no t, point, normal or direction, and only 7 has r and limit."""
+    """Of a surface that was hit or refused. A refused one has no t, point, normal or direction, and only 7 has r and
+    limit."""
 
     number: int
     status: int
@@ -36,7 +37,8 @@ class Record(NamedTuple):
 
 
 class Listing(NamedTuple):
-    """Records and how they end: outcome, steps and path. Or, without records, why and at which byte the start was refused."""
+    """Records and how they end: outcome, steps and path. Or, without records, why and at which byte the start was
+    refused."""
 
     records: List[Record]
     outcome: int

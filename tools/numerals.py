@@ -1,4 +1,4 @@
-"""Numbers as text: decimals, hexadecimal floats and bit patterns."""
+"""Numbers as bits and as text: decimals, hexadecimal floats and bit patterns."""
 import math
 import re
 import struct
@@ -11,15 +11,24 @@ NAN = "nan:"
 PATTERN = re.compile(r"[0-9a-f]{16}", re.ASCII | re.IGNORECASE)
 
 
+def bits_of(x):
+    """As a whole number; a NaN keeps its own."""
+    return struct.unpack("<Q", struct.pack("<d", x))[0]
+
+
+def of_bits(whole):
+    return struct.unpack("<d", struct.pack("<Q", whole))[0]
+
+
 def pattern(x):
-    """Sixteen hex digits; a NaN keeps its own."""
-    return struct.pack(">d", x).hex().upper()
+    """The bits as sixteen hex digits."""
+    return f"{bits_of(x):016X}"
 
 
 def of_pattern(digits):
     if not PATTERN.fullmatch(digits):
         raise ValueError(f"{digits!r} is not a pattern of 16 hex digits")
-    return struct.unpack(">d", bytes.fromhex(digits))[0]
+    return of_bits(int(digits, 16))
 
 
 def nan_of(digits):

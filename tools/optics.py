@@ -12,7 +12,7 @@ BACKWARDS = (0.0, 0.0, -1.0)
 
 
 class Refusal(Exception):
-    """A number of document 01's table, and for a 7 r and the limit."""
+    """A number of SCOPE's table (T1), and for a 7 r and the limit."""
 
     def __init__(self, number, r=0.0, limit=0.0):
         super().__init__(number)

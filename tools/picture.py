@@ -34,7 +34,8 @@ SECTIONS = ((1, "Section x = 0: y upwards, z to the right"), (0, "Section y = 0:
 
 
 class Beam:
-    """What is drawn of a beam: the points that are final, from the start on, and where it was going from the last; and its refusal."""
+    """What is drawn of a beam: the points that are final, from the start on, and where it was going from the last; and
+    its refusal."""
 
     def __init__(self, prescription, listing):
         ray = prescription.ray
@@ -63,7 +64,8 @@ class Beam:
         return STOPPED if surface == self.refused else UNREACHED
 
     def end_of_way(self, surfaces, size):
-        """Where the way that was not measured is drawn to: the refused surface as it is drawn, or its vertex plane, or some way on."""
+        """Where the way that was not measured is drawn to: the refused surface as it is drawn, or its vertex plane, or
+        some way on."""
         length = math.hypot(*self.direction) if self.direction else 0.0
         if not self.points or not 0 < length < math.inf:
             return None
@@ -103,7 +105,8 @@ class Window:
         return math.hypot(self.length(), self.tallest)
 
     def scales(self):
-        """Pixels a mm along the axis, and how much larger heights are drawn: not at all, unless the whole is long and thin."""
+        """Pixels a mm along the axis, and how much larger heights are drawn: not at all, unless the whole is long and
+        thin."""
         scale = min((WIDTH - 2 * MARGIN - 20) / self.length(), MOST_HEIGHT / self.tallest if self.tallest else math.inf)
         height = self.tallest * scale
         return scale, rounded_up(LEAST_HEIGHT / height) if 0 < height < LEAST_HEIGHT / 2 else 1.0
@@ -161,7 +164,8 @@ class Picture:
         self.parts = []
 
     def unmeasured(self):
-        """What else is to be seen: where the beam was going, and the vertex of a surface that has no shape and was refused."""
+        """What else is to be seen: where the beam was going, and the vertex of a surface that has no shape and was
+        refused."""
         if self.way_end:
             yield self.way_end
         if self.beam.refused is not None and math.isfinite(self.surfaces[self.beam.refused].vertex):
@@ -178,7 +182,10 @@ class Picture:
 
     def svg(self):
         colour = QUIET if self.beam.number is None else REFUSED
-        self.parts = [text(self.title, (MARGIN, 30), INK, 17, bold=True), text(self.outcome(), (MARGIN, 50), colour, 13)]
+        self.parts = [
+            text(self.title, (MARGIN, 30), INK, 17, bold=True),
+            text(self.outcome(), (MARGIN, 50), colour, 13),
+        ]
         bottom = self.draw_slips(50.0)
         for across, caption in SECTIONS:
             self.parts.append(text(caption, (MARGIN, bottom + 34), QUIET))
@@ -207,7 +214,9 @@ class Picture:
         so_far = f"{beam.hits} of {len(self.surfaces)} surfaces hit, path {listing.path:.6g} mm"
         if beam.record is None:
             return f"{'not ended' if listing.outcome == NOT_ENDED else 'done'}: {so_far}"
-        limits = f", r {beam.record.r:.6g} mm, semi-diameter {beam.record.limit:.6g} mm" if beam.number == VIGNETTED else ""
+        limits = ""
+        if beam.number == VIGNETTED:
+            limits = f", r {beam.record.r:.6g} mm, semi-diameter {beam.record.limit:.6g} mm"
         return f"refused at surface {beam.refused} with {told(beam.number)}{limits}; {so_far}"
 
     def draw_section(self, view):
@@ -224,8 +233,9 @@ class Picture:
             self.draw_number(i, *((x, y + room) for x, y in ends))
         self.draw_beam(view)
         if refusal:
+            (x, y), words = refusal, told(self.beam.number)
             self.parts += cross(self.refusal_place(view), REFUSED)
-            self.parts.append(text(told(self.beam.number), (refusal[0], refusal[1] + room), REFUSED, anchor="middle", bold=True))
+            self.parts.append(text(words, (x, y + room), REFUSED, anchor="middle", bold=True))
         return view.bottom()
 
     def numbers(self, view, labels):
@@ -337,7 +347,8 @@ class Picture:
         left, (scale, stretch) = left_of(self.window), self.window.scales()
         length = rounded_up(80 / scale)
         right = left + length * scale
-        self.parts.append(path([(left, y - 4), (left, y + 4), (left, y), (right, y), (right, y - 4), (right, y + 4)], stroke(INK, 1.4)))
+        bar = [(left, y - 4), (left, y + 4), (left, y), (right, y), (right, y - 4), (right, y + 4)]
+        self.parts.append(path(bar, stroke(INK, 1.4)))
         heights = "" if stretch == 1 else f"; heights are drawn {stretch:g} times larger"
         self.parts.append(text(f"{length:g} mm{heights}", (right + 8, y + 4), INK))
 
@@ -367,7 +378,8 @@ class Picture:
         if any(True for _ in self.bodies()):
             yield lambda line: [path(line, stroke(glass(1.6), 10))], "glass"
         if beam.hits:
-            yield lambda line: [path(line, stroke(BEAM, 1.8)), circle(middle(line), 2.4, f'fill="{BEAM}"')], "beam, finished"
+            point = f'fill="{BEAM}"'
+            yield lambda line: [path(line, stroke(BEAM, 1.8)), circle(middle(line), 2.4, point)], "beam, finished"
         if self.way_end:
             yield lambda line: [path(line, stroke(BEAM, 1.8, DASHES))], "beam's way, not measured"
         if beam.points:

@@ -14,15 +14,16 @@ the text:
   biconic vertex=9 index=1.6 cx=0.02 kx=0 cy=0.01 ky=-1 semi=20
   mirror toroid vertex=30 index=1 rx=-400 cy=-0.002 ky=0 semi=20
 
-  A surface a line, in the beam's order, at most 512: the kind, then name=number in any order, each name once and none left out.
-  Lengths are in mm. `vertex` is the vertex's z, `index` the index behind the surface (a mirror's is checked and not used), `semi` the
-  semi-diameter, `c` a curvature in 1/mm, `k` a conic constant, `rx` the radius of a toroid's circle. An even asphere may have up to 8
-  coefficients: a1 of r^2, a2 of r^4 and so on to a8 of r^16, none skipped. In place of c, cx or cy there may be radius, radiusx or
-  radiusy: the curvature is 1/radius, rounded once, and inf is a plane's. A cylinder is a biconic with radiusx=inf, or radiusy=inf.
-  `mirror` stands before a mirror's kind. The ray, if there is one, comes first: origin, direction and the index that it starts in.
+  A surface a line, in the beam's order, at most 512: the kind, then name=number in any order, each name once and none
+  left out. Lengths are in mm. `vertex` is the vertex's z, `index` the index behind the surface (a mirror's is checked
+  and not used), `semi` the semi-diameter, `c` a curvature in 1/mm, `k` a conic constant, `rx` the radius of a toroid's
+  circle. An even asphere may have up to 8 coefficients: a1 of r^2, a2 of r^4 and so on to a8 of r^16, none skipped. In
+  place of c, cx or cy there may be radius, radiusx or radiusy: the curvature is 1/radius, rounded once, and inf is a
+  plane's. A cylinder is a biconic with radiusx=inf, or radiusy=inf. `mirror` stands before a mirror's kind. The ray, if
+  there is one, comes first: origin, direction and the index that it starts in.
 
-  A number is a decimal (6, -0, 1.5e-3), a hexadecimal float with its exponent (0x1.8p-3), inf, -inf, or nan: and the 16 hex digits of
-  a NaN's pattern. A decimal stands for the nearest binary64 number."""
+  A number is a decimal (6, -0, 1.5e-3), a hexadecimal float with its exponent (0x1.8p-3), inf, -inf, or nan: and the 16
+  hex digits of a NaN's pattern. A decimal stands for the nearest binary64 number."""
 
 COEFFICIENT = re.compile(r"a[1-9][0-9]*", re.ASCII)
 SURFACE_NAMES = ("vertex", "index")
@@ -121,7 +122,8 @@ def take(given, name, owner):
             raise ValueError(f"{name} and {radius} are the same number, and both are given")
         return curvature(read_number(radius, given.pop(radius)), radius)
     if name not in given:
-        raise ValueError(f"{name} is missing: {owner} needs it" if radius is None else f"{name} or {radius} is missing: {owner} needs one")
+        missing = f"{name} is missing: {owner} needs it"
+        raise ValueError(missing if radius is None else f"{name} or {radius} is missing: {owner} needs one")
     return read_number(name, given.pop(name))
 
 
@@ -151,7 +153,8 @@ def taken_coefficients(given, most):
             last = max(named, key=lambda name: int(name[1:]))
             raise ValueError(f"{last} is given without a{i}: no coefficient is skipped, one that is not wanted is 0")
     if len(named) > most:
-        raise ValueError(f"an even asphere has at most {most} coefficients" if most else "only an even asphere has coefficients")
+        too_many = f"an even asphere has at most {most} coefficients"
+        raise ValueError(too_many if most else "only an even asphere has coefficients")
     return [read_number(f"a{i}", given.pop(f"a{i}")) for i in range(1, len(named) + 1)]
 
 

@@ -1,4 +1,4 @@
-"""A recipe's bytes, as document 01 has them, and the surfaces that they tell."""
+"""A recipe's bytes, as SCOPE has them (R1 to R5), and the surfaces that they tell."""
 import math
 import struct
 from itertools import accumulate
@@ -9,8 +9,8 @@ MIRROR = 256
 
 
 class Shape(NamedTuple):
-    """What a kind's record has: its number, the names of its numbers behind vertex and index, and how many coefficients may follow;
-    and the most steps that such a surface takes."""
+    """What a kind's record has: its number, the names of its numbers behind vertex and index, and how many coefficients
+    may follow; and the most steps that such a surface takes."""
 
     kind: int
     names: Tuple[str, ...]
@@ -54,8 +54,8 @@ class Malformed(Exception):
 
 
 class Prescription(NamedTuple):
-    """The ray has origin, direction and starting index. A recipe for the library has none. Where bytes are malformed behind the surfaces,
-    it is said how."""
+    """The ray has origin, direction and starting index. A recipe for the library has none. Where bytes are malformed
+    behind the surfaces, it is said how."""
 
     ray: Optional[List[float]]
     surfaces: List[Surface]
@@ -63,7 +63,8 @@ class Prescription(NamedTuple):
 
 
 class Fault(NamedTuple):
-    """Why a trace is refused at its start: the surface's number, or None for the ray; the number in the table; and the reason."""
+    """Why a trace is refused at its start: the surface's number, or None for the ray; the number in the table; and the
+    reason."""
 
     surface: Optional[int]
     number: int
@@ -119,7 +120,8 @@ def ray_at_start(data):
         return None, 0
     _, ray, end = record_at(data, 0)
     if len(ray) != len(RAY_NAMES):
-        raise Malformed(0, f"a ray's record has {2 + 8 * len(RAY_NAMES)} bytes after its length, and not {2 + 8 * len(ray)}")
+        due, given = (2 + 8 * count for count in (len(RAY_NAMES), len(ray)))
+        raise Malformed(0, f"a ray's record has {due} bytes after its length, and not {given}")
     return ray, end
 
 
@@ -153,7 +155,8 @@ def record_at(data, at):
 
 
 def surface_fault(surface):
-    """The number and the reason of the first that is wrong with a surface, in the order of the trace's checks; or None."""
+    """The number and the reason of the first that is wrong with a surface, in the order of the trace's checks; or
+    None."""
     if not all(map(math.isfinite, [surface.vertex, surface.index, *surface.numbers])):
         return 2, "a number is not finite"
     if surface.named()["semi"] < 0:

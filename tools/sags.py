@@ -16,7 +16,8 @@ def sag(surface, x, y):
 
 
 def section(surface, across, height):
-    """The sag in the section across which x or y runs, as `across` is 0 or 1. It is the same on both sides of the axis."""
+    """The sag in the section across which x or y runs, as `across` is 0 or 1. It is the same on both sides of the
+    axis."""
     return sag(surface, *((height, 0.0) if across == 0 else (0.0, height)))
 
 
@@ -65,7 +66,8 @@ def halved(inside, outside, is_inside):
 
 
 def way_to(surface, origin, direction, farthest, pieces=2000):
-    """How far a beam goes, in lengths of its direction, until it comes to the surface as it is drawn; None if not within reach."""
+    """How far a beam goes, in lengths of its direction, until it comes to the surface as it is drawn; None if not
+    within reach."""
 
     def height(t):
         x, y, z = (a + t * b for a, b in zip(origin, direction))

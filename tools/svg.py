@@ -30,8 +30,8 @@ def text(words, place, colour, size=12, anchor="start", bold=False):
     """With a white rim, so that it can be read over lines."""
     weight = ' font-weight="bold"' if bold else ""
     rim = 'stroke="white" stroke-width="3" stroke-linejoin="round" paint-order="stroke"'
-    where = f'x="{number_text(place[0])}" y="{number_text(place[1])}"'
-    return f'<text {where} font-size="{size}" text-anchor="{anchor}" fill="{colour}" {rim}{weight}>{printable(words)}</text>'
+    where = f'x="{number_text(place[0])}" y="{number_text(place[1])}" font-size="{size}" text-anchor="{anchor}"'
+    return f'<text {where} fill="{colour}" {rim}{weight}>{printable(words)}</text>'
 
 
 def cross(place, colour, arm=5.0):

@@ -1,4 +1,4 @@
-"""Document 01's table: what each number means."""
+"""SCOPE's table (T1): what each number means."""
 
 MEANINGS = {
     0: "blank, or trace not ended",

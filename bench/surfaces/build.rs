@@ -1,15 +1,14 @@
-//! The Rust text as the oracle takes it, and the archives of the proved functions.
+//! The Rust text as the oracle takes it, and the archive of the functions that are measured one by one. The wrapper's
+//! own build links the other archive, `libstation.a` of the same folder.
 
 #[path = "../../oracle/build.rs"]
 mod text;
 
 fn main() {
     text::main();
-    let archives = std::env::var("MEASURED").expect("MEASURED names the folder with the archives");
-    println!("cargo:rerun-if-env-changed=MEASURED");
-    println!("cargo:rustc-link-search=native={archives}");
-    for name in ["measured", "station"] {
-        println!("cargo:rerun-if-changed={archives}/lib{name}.a");
-        println!("cargo:rustc-link-lib=static={name}");
-    }
+    let folder = std::env::var("PILINGRUE_LIB").expect("PILINGRUE_LIB names the folder with the archives");
+    println!("cargo:rerun-if-env-changed=PILINGRUE_LIB");
+    println!("cargo:rerun-if-changed={folder}/libmeasured.a");
+    println!("cargo:rustc-link-search=native={folder}");
+    println!("cargo:rustc-link-lib=static=measured");
 }

@@ -1,4 +1,5 @@
-//! The Rust text itself, and what the programs over it share: lines of words, and document 01's numbers for refusals.
+//! The Rust text itself, and what the programs over it share: lines of words, and SCOPE's numbers for
+//! refusals (T1).
 
 use std::io::{self, Read, Write};
 
@@ -44,7 +45,7 @@ pub fn written(numbers: &[f64]) -> String {
     numbers.iter().map(|&x| format!(" {:016X}", bits(x))).collect()
 }
 
-/// Document 01's number, and the values that are told with it.
+/// SCOPE's number (T1), and the values that are told with it.
 pub fn told(refusal: OpticsError) -> (u8, Vec<f64>) {
     match refusal {
         OpticsError::InvalidParameter(_) => (2, vec![]),
@@ -54,6 +55,6 @@ pub fn told(refusal: OpticsError) -> (u8, Vec<f64>) {
         OpticsError::RayMissedSurface(_) => (6, vec![]),
         OpticsError::RayVignetted { r, max_r, .. } => (7, vec![r, max_r]),
         OpticsError::TotalInternalReflection => (8, vec![]),
-        other => panic!("{other:?} has no number in document 01"),
+        other => panic!("{other:?} has no number in SCOPE"),
     }
 }

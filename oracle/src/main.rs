@@ -57,18 +57,17 @@ fn toroid_numbers(s: ToroidalSurface) -> Vec<f64> {
 
 /// What a function answers of a surface, which is a question's last operand.
 fn asked<'a, T, S>(
-    q: &mut Operands<'a>,
-    before: fn(&mut Operands<'a>) -> Option<T>,
-    surface: fn(&mut Operands<'a>) -> Option<S>,
+    q: &mut Operands<'a>, before: fn(&mut Operands<'a>) -> Option<T>, surface: fn(&mut Operands<'a>) -> Option<S>,
     function: fn(T, S) -> Answer,
 ) -> Option<Answer> {
     Some(function(before(q)?, surface(q)?))
 }
 
 /// None for a line that cannot be read.
-#[rustfmt::skip] // a question a line
 fn answer(line: &[u8]) -> Option<Answer> {
     let (operation, mut q) = Operands::of_line(line)?;
+    let (number, place, ray_and_vertex) = (Operands::number, Operands::place, Operands::ray_and_vertex);
+    let (even, odd, biconic, toroid) = (Operands::even, Operands::odd, Operands::biconic, Operands::toroid);
     let answer = match operation {
         "sqrt" => one(q.number()?.sqrt()),
         "abs" => one(q.number()?.abs()),
@@ -102,18 +101,18 @@ fn answer(line: &[u8]) -> Option<Answer> {
             EvenAsphere::new(s.curvature, s.conic_constant, s.coefficients, s.semi_diameter_mm).map(even_numbers)
         }
         "even_paraxial" => one(q.even()?.paraxial_curvature()),
-        "even_sag" => asked(&mut q, Operands::number, Operands::even, |r, s| s.sag(r).and_then(one))?,
-        "even_derivative" => asked(&mut q, Operands::number, Operands::even, |r, s| s.radial_derivative(r).and_then(one))?,
-        "even_normal" => asked(&mut q, Operands::place, Operands::even, |(x, y), s| s.normal(x, y).map(vector))?,
-        "even_intersect" => asked(&mut q, Operands::ray_and_vertex, Operands::even, |(ray, z), s| s.intersect_ray(&ray, z).map(hit))?,
+        "even_sag" => asked(&mut q, number, even, |r, s| s.sag(r).and_then(one))?,
+        "even_derivative" => asked(&mut q, number, even, |r, s| s.radial_derivative(r).and_then(one))?,
+        "even_normal" => asked(&mut q, place, even, |(x, y), s| s.normal(x, y).map(vector))?,
+        "even_intersect" => asked(&mut q, ray_and_vertex, even, |(ray, z), s| s.intersect_ray(&ray, z).map(hit))?,
 
         "odd_new" => {
             let s = q.odd()?;
             let (even, odd) = (s.even_coefficients, s.odd_coefficients);
             OddAsphere::new(s.curvature, s.conic_constant, even, odd, s.semi_diameter_mm).map(odd_numbers)
         }
-        "odd_sag" => asked(&mut q, Operands::number, Operands::odd, |r, s| s.sag(r).and_then(one))?,
-        "odd_normal" => asked(&mut q, Operands::place, Operands::odd, |(x, y), s| s.normal(x, y).map(vector))?,
+        "odd_sag" => asked(&mut q, number, odd, |r, s| s.sag(r).and_then(one))?,
+        "odd_normal" => asked(&mut q, place, odd, |(x, y), s| s.normal(x, y).map(vector))?,
 
         "biconic_new" => {
             let s = q.biconic()?;
@@ -122,20 +121,20 @@ fn answer(line: &[u8]) -> Option<Answer> {
         "biconic_paraxial" => Ok(pair(q.biconic()?.paraxial_curvatures())),
         "biconic_rx" => one(q.biconic()?.rx_mm()),
         "biconic_ry" => one(q.biconic()?.ry_mm()),
-        "biconic_sag" => asked(&mut q, Operands::place, Operands::biconic, |(x, y), s| s.sag(x, y).and_then(one))?,
-        "biconic_derivatives" => asked(&mut q, Operands::place, Operands::biconic, |(x, y), s| s.derivatives(x, y).map(pair))?,
-        "biconic_normal" => asked(&mut q, Operands::place, Operands::biconic, |(x, y), s| s.normal(x, y).map(vector))?,
-        "biconic_intersect" => asked(&mut q, Operands::ray_and_vertex, Operands::biconic, |(ray, z), s| s.intersect_ray(&ray, z).map(hit))?,
+        "biconic_sag" => asked(&mut q, place, biconic, |(x, y), s| s.sag(x, y).and_then(one))?,
+        "biconic_derivatives" => asked(&mut q, place, biconic, |(x, y), s| s.derivatives(x, y).map(pair))?,
+        "biconic_normal" => asked(&mut q, place, biconic, |(x, y), s| s.normal(x, y).map(vector))?,
+        "biconic_intersect" => asked(&mut q, ray_and_vertex, biconic, |(ray, z), s| s.intersect_ray(&ray, z).map(hit))?,
 
         "toroid_new" => {
             let s = q.toroid()?;
             ToroidalSurface::new(s.rx_mm, s.cy, s.ky, s.semi_diameter_mm).map(toroid_numbers)
         }
         "toroid_ry" => one(q.toroid()?.ry_mm()),
-        "toroid_sag" => asked(&mut q, Operands::place, Operands::toroid, |(x, y), s| s.sag(x, y).and_then(one))?,
-        "toroid_derivatives" => asked(&mut q, Operands::place, Operands::toroid, |(x, y), s| s.derivatives(x, y).map(pair))?,
-        "toroid_normal" => asked(&mut q, Operands::place, Operands::toroid, |(x, y), s| s.normal(x, y).map(vector))?,
-        "toroid_intersect" => asked(&mut q, Operands::ray_and_vertex, Operands::toroid, |(ray, z), s| s.intersect_ray(&ray, z).map(hit))?,
+        "toroid_sag" => asked(&mut q, place, toroid, |(x, y), s| s.sag(x, y).and_then(one))?,
+        "toroid_derivatives" => asked(&mut q, place, toroid, |(x, y), s| s.derivatives(x, y).map(pair))?,
+        "toroid_normal" => asked(&mut q, place, toroid, |(x, y), s| s.normal(x, y).map(vector))?,
+        "toroid_intersect" => asked(&mut q, ray_and_vertex, toroid, |(ray, z), s| s.intersect_ray(&ray, z).map(hit))?,
         _ => return None,
     };
     q.end()?;

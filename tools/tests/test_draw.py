@@ -2,7 +2,7 @@ import unittest
 import xml.etree.ElementTree as ElementTree
 from functools import lru_cache
 
-from trying import LISTINGS, NAMES, SAMPLES, Refusing, ran
+from trying import LISTINGS, NAMES, NO_RADIUS, SAMPLES, ZERO, Refusing, ran, refused_at_first
 from labels import ABOVE, Labels, box
 from listing import read as read_listing
 from numerals import pattern
@@ -10,10 +10,9 @@ from picture import BEAM, DASHES, PALE, REFUSED, Picture, rounded_up
 from prescription import read
 
 SVG = "{http://www.w3.org/2000/svg}"
-ZERO = pattern(0.0)
 RAY = "ray x=12 y=0 z=-5 dx=0 dy=0 dz=1 index=1\n"
 PLANE = "conic vertex=0 index=2 c=0 k=0 semi=10\n"
-VIGNETTED = " ".join(["0 7 1", pattern(12.0), pattern(10.0), *[ZERO] * 9]) + f"\nend 7 1 {ZERO}\n"
+VIGNETTED = refused_at_first(7, 12.0, 10.0)
 
 
 def drawn(recipe, listing=None, title="lens"):
@@ -32,8 +31,8 @@ def texts(root):
 
 def lines(root, colour, dash=None):
     """The paths of a section's lines, those of the legend left out by their length."""
-    found = [one for one in root.iter(SVG + "path") if one.get("stroke") == colour and one.get("stroke-dasharray") == dash]
-    return [points_of(one) for one in found if spread(points_of(one)) > 27]
+    found = [(points_of(one), one.get("stroke"), one.get("stroke-dasharray")) for one in root.iter(SVG + "path")]
+    return [points for points, *style in found if style == [colour, dash] and spread(points) > 27]
 
 
 def points_of(element):
@@ -91,15 +90,17 @@ class Draw(unittest.TestCase):
 
     def test_vignetted_is_marked_where_the_surface_would_be(self):
         root = drawn(RAY + PLANE, VIGNETTED)
-        self.assertIn("refused at surface 0 with 7 (vignetted), r 12 mm, semi-diameter 10 mm; 0 of 1 surfaces hit, path 0 mm", texts(root))
+        refused = "refused at surface 0 with 7 (vignetted), r 12 mm, semi-diameter 10 mm"
+        self.assertIn(f"{refused}; 0 of 1 surfaces hit, path 0 mm", texts(root))
         (start, end), _ = lines(root, BEAM, DASHES)
         plane = lines(root, REFUSED)[0]
         self.assertAlmostEqual(end[0], plane[0][0], -1)
 
     def test_refused_starts(self):
         root = drawn(RAY + PLANE + PLANE.replace("semi=", "semi=-").replace("vertex=0", "vertex=3"), "refused 3 104\n")
-        self.assertIn("refused at the start with 3 (negative semi-diameter of a conic), for surface 1: nothing is traced", texts(root))
-        self.assertEqual(texts(root).count("3 (negative semi-diameter of a conic)"), 2)
+        negative = "3 (negative semi-diameter of a conic)"
+        self.assertIn(f"refused at the start with {negative}, for surface 1: nothing is traced", texts(root))
+        self.assertEqual(texts(root).count(negative), 2)
         self.assertIn("for the ray", texts(drawn(RAY.replace("x=12", "x=inf") + PLANE, "refused 2 0\n"))[1])
         self.assertIn("4 (singular)", texts(drawn(RAY.replace("index=1", "index=0") + PLANE, "refused 4 0\n")))
 
@@ -126,8 +127,7 @@ class Draw(unittest.TestCase):
         toroid = "toroid vertex=3 index=1 rx=0 cy=0.05 ky=0 semi=10\n"
         self.assertIsNone(drawn(toroid))
         root = drawn(PLANE + toroid)
-        self.assertEqual(texts(root)[2], "surface 1 is not drawn: rx is 0, a circle without a radius, which a beam hardly meets: "
-                                         "a cylinder is a biconic with radiusx=inf")
+        self.assertEqual(texts(root)[2], f"surface 1 is not drawn: {NO_RADIUS}")
         self.assertEqual((texts(root).count("0"), texts(root).count("1")), (2, 0))
         self.assertEqual(texts(drawn(PLANE))[2], "Section x = 0: y upwards, z to the right")
 
@@ -157,7 +157,8 @@ class Tool(Refusing, unittest.TestCase):
         options = ["--title", "doublet"]
         done = ran("draw", SAMPLES / "doublet", LISTINGS / "doublet", *options)
         self.assertEqual(done.status, 0)
-        self.assertEqual(ran("draw", SAMPLES / "doublet.txt", "-", *options, given=(LISTINGS / "doublet").read_bytes()).out, done.out)
+        listing = (LISTINGS / "doublet").read_bytes()
+        self.assertEqual(ran("draw", SAMPLES / "doublet.txt", "-", *options, given=listing).out, done.out)
         self.assertEqual(ElementTree.fromstring(done.out).find(SVG + "title").text, "doublet")
 
     def test_refusals(self):

@@ -12,10 +12,11 @@ HEAD = """# a root a unit up
 BODY = """file: src/root.rt
 old:     q
 new:     q + 1
-file: specs/Sqrt.antt
+file: specs/Root.antt
 old: gone
 new:
 """
+CRATE = {"src/root.rt": "a\n    q\n", "specs/Root.antt": "gone, kept, kept\n", "proofs/Roots.antt": "q\n"}
 
 
 class Crates(unittest.TestCase):
@@ -38,7 +39,7 @@ class Edits(unittest.TestCase):
         made = tempfile.TemporaryDirectory()
         self.addCleanup(made.cleanup)
         self.folder = Path(made.name)
-        for name, text in {"src/root.rt": "a\n    q\n", "specs/Sqrt.antt": "gone, kept, kept\n", "proofs/Roots.antt": "q\n"}.items():
+        for name, text in CRATE.items():
             (self.folder / name).parent.mkdir()
             (self.folder / name).write_text(text)
 
@@ -54,7 +55,7 @@ class Edits(unittest.TestCase):
     def test_reads(self):
         edit = self.read(HEAD + BODY)
         self.assertEqual(edit[:3], ("root_one_up", "a root a unit up", "`returns`: `omega`"))
-        self.assertEqual(edit.changes, [("src/root.rt", "    q", "    q + 1"), ("specs/Sqrt.antt", "gone", "")])
+        self.assertEqual(edit.changes, [("src/root.rt", "    q", "    q + 1"), ("specs/Root.antt", "gone", "")])
 
     def test_reads_without_a_head(self):
         self.assertEqual(self.read(BODY)[1:3], ("", ""))
@@ -64,7 +65,8 @@ class Edits(unittest.TestCase):
             self.read(HEAD + BODY + "# another\n")
 
     def test_changes(self):
-        self.assertEqual(changed(self.read(HEAD + BODY), self.folder), {"src/root.rt": "a\n    q + 1\n", "specs/Sqrt.antt": ", kept, kept\n"})
+        texts = {"src/root.rt": "a\n    q + 1\n", "specs/Root.antt": ", kept, kept\n"}
+        self.assertEqual(changed(self.read(HEAD + BODY), self.folder), texts)
 
     def test_no_pair_relies_on_another(self):
         file = "src/root.rt"
@@ -74,7 +76,7 @@ class Edits(unittest.TestCase):
         self.assert_unfit("does not have this once: 'a'", (file, "    q", "    a"), (file, "a", "s"))
 
     def test_refuses_what_is_not_there_once(self):
-        self.assert_unfit("does not have this once", ("specs/Sqrt.antt", "kept", "gone"))
+        self.assert_unfit("does not have this once", ("specs/Root.antt", "kept", "gone"))
         self.assert_unfit("does not have this once", ("src/root.rt", "", "gone"))
         self.assert_unfit("changes nothing")
 

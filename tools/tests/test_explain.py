@@ -2,24 +2,19 @@ import os
 import tempfile
 import unittest
 
-from trying import LISTINGS, NAMES, SAMPLES, Refusing, ran
+from trying import LISTINGS, NAMES, SAMPLES, ZERO, Refusing, ran, refused_at_first
 from numerals import pattern
 from prescription import read
 from records import file
 from table import ENDS, MEANINGS, WHY
 
-ZERO = pattern(0.0)
-VIGNETTED = " ".join(["0 7 1", pattern(12.0), pattern(10.0), *[ZERO] * 9]) + f"\nend 7 1 {ZERO}\n"
+VIGNETTED = refused_at_first(7, 12.0, 10.0)
 RAY = "ray x=12 y=0 z=-5 dx=0 dy=0 dz=1 index=1\n"
 PLANE = "conic vertex=0 index=2 c=0 k=0 semi=10\n"
 DARK = PLANE.replace("index=2", "index=0")
 ALL_FIT = "Every record is that of the lens and the ray as they stand now.\n"
 REFUSAL_FITS = "Every record, the refusal's too, is that of the lens and the ray as they stand now.\n"
 NO_RECIPE = "No recipe is given: whether this is of the lens and the ray as they stand now is not known.\n"
-
-
-def refused_with(number):
-    return " ".join([f"0 {number} 1", *[ZERO] * 11]) + f"\nend {number} 1 {ZERO}\n"
 
 
 def told(listing, *options):
@@ -42,9 +37,10 @@ class Explain(Refusing, unittest.TestCase):
 
     def test_doublet(self):
         text = ran("explain", LISTINGS / "doublet", "--recipe", SAMPLES / "doublet").out.decode()
-        first = "Surface 0 (conic): hit at x 6, y 3, z 0.35959609 mm, 20.3595961 mm after the start, on its front face; 1 step.\n"
-        self.assertTrue(text.startswith(first))
-        self.assertIn("      1   1 hit      1  3.16462186      5.89651048       2.94825524  3.52210204  23.5242179\n", text)
+        hit = "hit at x 6, y 3, z 0.35959609 mm, 20.3595961 mm after the start, on its front face"
+        self.assertTrue(text.startswith(f"Surface 0 (conic): {hit}; 1 step.\n"))
+        row = "      1   1 hit      1  3.16462186      5.89651048       2.94825524  3.52210204  23.5242179\n"
+        self.assertIn(row, text)
         self.assertTrue(text.endswith(f"\nDone: all 4 surfaces are hit; 4 steps, path 123.822188 mm.\n\n{ALL_FIT}"))
 
     def test_samples_without_their_recipes(self):
@@ -62,8 +58,9 @@ class Explain(Refusing, unittest.TestCase):
         why = "no point of the surface was found ahead of the beam"
         self.assertIn(f"Surface 2 (conic): refused with 6, missed, after 1 step: {why}.\n", text)
         self.assertIn("      2  6 missed      1           -           -           -           -           -\n", text)
-        self.assertIn("Ended by the refusal at surface 2, with 6 (missed); 3 steps, path 23.5242179 mm up to the last hit.\n", text)
-        self.assertTrue(text.endswith(f"The record of surface 3 is blank: nothing of it was measured.\n\n{REFUSAL_FITS}"))
+        ended = "Ended by the refusal at surface 2, with 6 (missed); 3 steps, path 23.5242179 mm up to the last hit.\n"
+        behind = "The record of surface 3 is blank: nothing of it was measured.\n"
+        self.assertTrue(text.endswith(f"{ended}{behind}\n{REFUSAL_FITS}"))
 
     def test_a_lens_or_ray_that_was_changed(self):
         """The listing is of the lens before, and nothing of it is told or drawn."""
@@ -88,12 +85,12 @@ class Explain(Refusing, unittest.TestCase):
 
     def test_a_toroid_without_a_radius(self):
         toroid = "toroid vertex=0 index=2 rx=0 cy=0 ky=0 semi=20\n"
-        text = told(refused_with(6), "--recipe", self.recipe(RAY + toroid))
+        text = told(refused_at_first(6), "--recipe", self.recipe(RAY + toroid))
         self.assertIn("a cylinder is a biconic with radiusx=inf).\n", text)
 
     def test_vignetted(self):
-        why = "refused with 7, vignetted, after 1 step: the beam meets it 12 mm from the axis, and its semi-diameter is 10 mm.\n"
-        self.assertIn(f"Surface 0: {why}", told(VIGNETTED))
+        why = "the beam meets it 12 mm from the axis, and its semi-diameter is 10 mm"
+        self.assertIn(f"Surface 0: refused with 7, vignetted, after 1 step: {why}.\n", told(VIGNETTED))
         self.assertIn("The records after it are blank: nothing of them was measured.\n", told(VIGNETTED))
         blank = "The records of surfaces 1 to 3 are blank: nothing of them was measured."
         for surfaces, said in ((1, "No surface comes after it."), (4, blank)):
@@ -104,7 +101,8 @@ class Explain(Refusing, unittest.TestCase):
     def test_every_refusal_has_a_reason(self):
         for number in ENDS:
             if number != 7:
-                self.assertIn(f"refused with {number}, {MEANINGS[number]}, after 1 step: {WHY[number]}.\n", told(refused_with(number)))
+                said = f"refused with {number}, {MEANINGS[number]}, after 1 step: {WHY[number]}.\n"
+                self.assertIn(said, told(refused_at_first(number)))
 
     def test_not_ended(self):
         text = told(f"end 0 3 {ZERO}\n")
@@ -113,25 +111,30 @@ class Explain(Refusing, unittest.TestCase):
                                f"\n{NO_RECIPE}")
 
     def test_no_surfaces(self):
-        self.assertEqual(told(f"end 1 0 {ZERO}\n"), f"Done: the recipe has no surface; 0 steps, path 0 mm.\n\n{NO_RECIPE}")
+        done = "Done: the recipe has no surface; 0 steps, path 0 mm.\n"
+        self.assertEqual(told(f"end 1 0 {ZERO}\n"), f"{done}\n{NO_RECIPE}")
 
     def test_a_direction_of_another_length(self):
         text = told(VIGNETTED, "--recipe", self.recipe(RAY.replace("dz=1", "dz=2") + PLANE))
-        self.assertIn("The ray's direction has the length 2: in t of surface 0, and in the path, that counts as 1 mm.\n", text)
+        counts = "in t of surface 0, and in the path, that counts as 1 mm"
+        self.assertIn(f"The ray's direction has the length 2: {counts}.\n", text)
 
     def test_refused_starts(self):
         nothing = "Nothing was traced: every record is blank.\n"
         self.assertEqual(told("refused 3 60\n"), "Refused at the start with 3 (negative semi-diameter of a conic), "
                                                  f"at the record that begins at byte 60.\n{nothing}")
         self.assertIn("for the ray or its starting index", told("refused 4 0\n"))
+        negative = PLANE.replace("semi=", "semi=-")
+        texts = (RAY + PLANE, RAY + DARK + PLANE, PLANE + PLANE)
+        cut, dark, rayless = (file(read(text).prescription)[:-1] for text in texts)
         for listing, recipe, said in (
-            ("refused 3 60\n", RAY + PLANE.replace("semi=", "semi=-"), "Surface 0 (conic): the semi-diameter is negative.\n"),
+            ("refused 3 60\n", RAY + negative, "Surface 0 (conic): the semi-diameter is negative.\n"),
             ("refused 4 0\n", RAY.replace("index=1", "index=-1"), "The ray: the index is not above 0.\n"),
             ("refused 10 0\n", PLANE, "The recipe has no ray.\n"),
-            ("refused 10 60\n", file(read(RAY + PLANE).prescription)[:-1], "Surface 0: cut short: 43 of the record's 44 bytes.\n"),
-            ("refused 4 60\n", file(read(RAY + DARK + PLANE).prescription)[:-1], "Surface 0 (conic): the index is not above 0.\n"),
+            ("refused 10 60\n", cut, "Surface 0: cut short: 43 of the record's 44 bytes.\n"),
+            ("refused 4 60\n", dark, "Surface 0 (conic): the index is not above 0.\n"),
             ("refused 10 0\n", b"\x3a\0\0\0", "Cut short: 4 of the record's 60 bytes.\n"),
-            ("refused 10 0\n", file(read(PLANE + PLANE).prescription)[:-1], "The recipe has no ray.\n"),
+            ("refused 10 0\n", rayless, "The recipe has no ray.\n"),
         ):
             text = told(listing, "--recipe", self.recipe(recipe))
             self.assertIn(said, text)
@@ -143,9 +146,12 @@ class Explain(Refusing, unittest.TestCase):
         self.assert_refused(ran("explain", given=b"\xff\xfe\0"), "standard input:1: not text in UTF-8")
         self.assert_refused(ran("explain", SAMPLES), "Is a directory")
         other = ran("explain", LISTINGS / "doublet", "--recipe", SAMPLES / "toroid")
-        self.assert_refused(other, f"{LISTINGS / 'doublet'}:1: surface 0: t is 20.359596090424287 in the listing, and 10.97")
-        self.assert_refused(ran("explain", "--recipe", self.recipe("cone"), given=b"refused 3 60\n"), "recipe:1: 'cone' is no kind")
-        self.assert_refused(ran("explain", "--recipe", self.recipe(b"\0"), given=VIGNETTED.encode()), "this is no listing of")
+        unlike = "surface 0: t is 20.359596090424287 in the listing, and 10.97"
+        self.assert_refused(other, f"{LISTINGS / 'doublet'}:1: {unlike}")
+        cone = ran("explain", "--recipe", self.recipe("cone"), given=b"refused 3 60\n")
+        self.assert_refused(cone, "recipe:1: 'cone' is no kind")
+        cut = ran("explain", "--recipe", self.recipe(b"\0"), given=VIGNETTED.encode())
+        self.assert_refused(cut, "this is no listing of")
         self.assertEqual(ran("explain", "--recipe", "-").status, 2)
 
     def test_usage(self):

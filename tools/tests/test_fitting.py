@@ -1,22 +1,18 @@
 import unittest
 
-from trying import CRATES, LISTINGS, NAMES, SAMPLES, Refusing
+from trying import CRATES, END_LINE, HIT_LINE, LISTINGS, MISSED_LINE, NAMES, SAMPLES, VIGNETTED_LINE, ZERO
+from trying import Refusing, refusal_by, refused_at_first
 from fitting import hold
 from listing import BadListing, Listing, hit, read, refusal as refused_record
-from numerals import of_pattern, pattern
+from numerals import bits_of, of_bits, of_pattern, pattern
 from prescription import read as read_text
 from records import Surface, bytes_of, file, parsed
 from table import HIT
 
-ONE, ZERO = pattern(1.0), pattern(0.0)
 ALL = (*NAMES, "lost")
-HIT_LINE = " ".join(["0 1 1", pattern(5.0), ZERO, ZERO, ZERO, ZERO, ZERO, pattern(-1.0), ZERO, ZERO, ONE, ONE])
-MISSED = " ".join(["1 6 3", *[ZERO] * 11])
-VIGNETTED = " ".join(["1 7 1", pattern(12.0), pattern(10.0), *[ZERO] * 9])
-END = f"end 1 1 {pattern(5.0)}"
 PLANE = "conic vertex=0 index=2 c=0 k=0 semi=10\n"
 RAY = "ray x=0 y=0 z=-5 dx=0 dy=0 dz=1 index=1\n"
-# document 01's even asphere, hit after 2 steps
+# the even asphere of SCOPE E5, hit after 2 steps
 EVEN = "ray x=4 y=0 z=-1 dx=0 dy=0 dz=1 index=1\neven vertex=0 index=1 c=0 k=0 semi=5 a1=0.125\n"
 EVEN_LISTING = (
     "0 1 2 4008000000000000 4010000000000000 0000000000000000 4000000000000000 3FE6A09E667F3BCC 0000000000000000 "
@@ -43,11 +39,7 @@ def listing_of(name):
 
 
 def refusal(listing, traced):
-    try:
-        hold(read(listing) if isinstance(listing, str) else listing, traced)
-    except BadListing as wrong:
-        return wrong.line, wrong.reason
-    return None
+    return refusal_by(BadListing, hold, read(listing) if isinstance(listing, str) else listing, traced)
 
 
 def by_a_thousandth(x):
@@ -71,7 +63,7 @@ def changed_lenses(lens):
 
 def next_up(x):
     """The next pattern, away from 0."""
-    return of_pattern(f"{int(pattern(x), 16) + 1:016X}")
+    return of_bits(bits_of(x) + 1)
 
 
 def other_slots(slots):
@@ -158,8 +150,8 @@ class Held(Refusing, unittest.TestCase):
     def test_listings_of_other_recipes(self):
         even, small = "even vertex=1 index=1 c=0 k=0 semi=9\n", "conic vertex=1 index=1 c=0 k=0 semi=9\n"
         behind = small.replace("vertex=1", "vertex=-1")
-        done, missed = f"{HIT_LINE}\n{END}", f"{HIT_LINE}\n{MISSED}\nend 6 4 {pattern(5.0)}"
-        vignetted = missed.replace(MISSED, VIGNETTED).replace("end 6 4", "end 7 2")
+        done, missed = f"{HIT_LINE}\n{END_LINE}", f"{HIT_LINE}\n{MISSED_LINE}\nend 6 4 {pattern(5.0)}"
+        vignetted = missed.replace(MISSED_LINE, VIGNETTED_LINE).replace("end 6 4", "end 7 2")
         dark, negative = PLANE.replace("index=2", "index=0"), PLANE.replace("semi=", "semi=-")
         malformed, singular = "10 (malformed recipe) at byte 0", "4 (singular) at byte 60"
         refused = "a refusal with {}, and lens and ray".format
@@ -183,7 +175,7 @@ class Held(Refusing, unittest.TestCase):
         self.assertIsNone(refusal("refused 2 0", prescription(RAY.replace("x=0", "x=inf") + PLANE)))
 
     def test_a_conic_that_was_changed(self):
-        done = f"{HIT_LINE}\n{END}"
+        done = f"{HIT_LINE}\n{END_LINE}"
         for old, new, reason in (
             ("z=-5", "z=-4", "t is 5 in the listing, and 4 by lens and ray"),
             ("z=-5", "z=5", "the listing has a hit, and lens and ray a refusal with 6 (missed)"),
@@ -229,11 +221,11 @@ class Held(Refusing, unittest.TestCase):
         """By the right number, and a 7 by its own numbers."""
         ray = "ray x=0 y=0 z=-5 dx=0.8 dy=0 dz=0.6 index=2\n"
         for number in (4, 5, 8, 9):
-            listing = " ".join([f"0 {number} 1", *[ZERO] * 11]) + f"\nend {number} 1 {ZERO}\n"
+            listing = refused_at_first(number)
             told = refusal(listing, prescription(ray + PLANE.replace("index=2", "index=1")))
             self.assert_reason(told, None if number == 8 else f"the listing has a refusal with {number}")
             self.assert_reason(refusal(listing, prescription(ray + PLANE)), f"the listing has a refusal with {number}")
-        aside, listing = RAY.replace(" x=0", " x=12"), VIGNETTED.replace("1 7", "0 7") + f"\nend 7 1 {ZERO}\n"
+        aside, listing = RAY.replace(" x=0", " x=12"), refused_at_first(7, 12.0, 10.0)
         self.assertIsNone(refusal(listing, prescription(aside + PLANE)))
         for old, new, reason in (
             ("x=12", "x=12.5", "r is 12 in the listing, and 12.5 by lens and ray"),

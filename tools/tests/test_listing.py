@@ -1,22 +1,11 @@
 import unittest
 
-from trying import Refusing
+from trying import END_LINE as END, HIT_LINE as HIT, MISSED_LINE as MISSED, VIGNETTED_LINE as VIGNETTED
+from trying import ZERO, Refusing, refusal_by
 from listing import BadListing, read
 from numerals import pattern
 
-ONE, ZERO = pattern(1.0), pattern(0.0)
-HIT = " ".join(["0 1 1", pattern(5.0), ZERO, ZERO, ZERO, ZERO, ZERO, pattern(-1.0), ZERO, ZERO, ONE, ONE])
-MISSED = " ".join(["1 6 3", *[ZERO] * 11])
-VIGNETTED = " ".join(["1 7 1", pattern(12.0), pattern(10.0), *[ZERO] * 9])
-END = f"end 1 1 {pattern(5.0)}"
-
-
-def refusal(text):
-    try:
-        read(text)
-    except BadListing as wrong:
-        return wrong.line, wrong.reason
-    return None
+ONE = pattern(1.0)
 
 
 class Read(Refusing, unittest.TestCase):
@@ -70,7 +59,7 @@ class Read(Refusing, unittest.TestCase):
             (1, "no start is refused with 6", "refused 6 60"),
             (1, "2 words, and not the 3 of refused", "refused 3"),
         ):
-            self.assert_told(refusal(text), line, reason)
+            self.assert_told(refusal_by(BadListing, read, text), line, reason)
 
     def test_a_trace_that_goes_on(self):
         self.assertEqual(read(f"{HIT}\nend 0 3 {pattern(5.0)}").steps, 3)

@@ -9,7 +9,7 @@ from records import SHAPES, Surface
 # how many questions of each sort the gate's list has at least, so that none is left out unseen
 ASKED = {"sag": 60, "derivatives": 40, "normal": 30, "turn": 30, "intersect": 250}
 
-# what document 01's own checks refuse, which a start makes before a trace; a plane's normal, which no trace asks for
+# what SCOPE's own checks refuse, which a start makes before a trace; a plane's normal, which no trace asks for
 LEFT_OUT = {
     "conic_normal": lambda numbers: abs(numbers[4]) < 1e-15,
     "conic_intersect": lambda numbers: numbers[9] < 0,

@@ -16,29 +16,28 @@ def surface(line):
 
 
 def refusal(text):
-    try:
-        read(text)
-    except BadText as wrong:
-        return wrong.line, wrong.reason
-    return None
+    return trying.refusal_by(BadText, read, text)
 
 
 class Numbers(unittest.TestCase):
     def test_each_way_of_writing(self):
-        for text, x in (("6", 6.0), ("+.5", 0.5), ("1.e-3", 0.001), ("0x1.8p-3", 0.1875), ("-0X.8P1", -1.0), ("inf", float("inf"))):
+        decimals = (("6", 6.0), ("+.5", 0.5), ("1.e-3", 0.001))
+        others = (("0x1.8p-3", 0.1875), ("-0X.8P1", -1.0), ("inf", float("inf")))
+        for text, x in (*decimals, *others):
             self.assertEqual(number(text), x)
         self.assertEqual(pattern(number("-0")), "8000000000000000")
         self.assertEqual(pattern(number("nan:FFF0000000000001")), "FFF0000000000001")
 
     def test_what_is_no_number(self):
-        for text in ("", ".", "1,5", "1_0", "0x3FF0000000000000", "0x1.8", "nan", "NaN", "infinity", "1e999", "0x1p1024", "١", "1 ",
-                     "nan:3FF0000000000000", "nan:7FF8", "nan:"):
+        for text in ("", ".", "1,5", "1_0", "0x3FF0000000000000", "0x1.8", "nan", "NaN", "infinity", "1e999", "١", "1 ",
+                     "0x1p1024", "nan:3FF0000000000000", "nan:7FF8", "nan:"):
             with self.assertRaises(ValueError, msg=text):
                 number(text)
 
     def test_any_pattern_goes_forth_and_back(self):
         draw = random.Random(1)
-        edges = [0, 1, 1 << 63, 0x7FF0000000000000, 0xFFF0000000000000, 0x7FF0000000000001, 0x7FEFFFFFFFFFFFFF, 0x000FFFFFFFFFFFFF]
+        edges = [0, 1, 1 << 63, 0x7FF0000000000000, 0xFFF0000000000000, 0x7FF0000000000001]
+        edges += [0x7FEFFFFFFFFFFFFF, 0x000FFFFFFFFFFFFF]
         for bits in [*edges, *(draw.getrandbits(64) for _ in range(2000))]:
             digits = f"{bits:016X}"
             for hexadecimal in (False, True):
@@ -48,15 +47,18 @@ class Numbers(unittest.TestCase):
 class Text(trying.Refusing, unittest.TestCase):
     def test_kinds(self):
         self.assertEqual(surface("conic vertex=1 index=2 c=3 k=4 semi=5"), Surface("conic", 1, 2, [3, 4, 5]))
-        self.assertEqual(surface("even semi=5 k=4 c=3 index=2 vertex=1 a2=7 a1=6"), Surface("even", 1, 2, [3, 4, 5, 6, 7]))
+        even = surface("even semi=5 k=4 c=3 index=2 vertex=1 a2=7 a1=6")
+        self.assertEqual(even, Surface("even", 1, 2, [3, 4, 5, 6, 7]))
         mirror = surface("mirror biconic vertex=1 index=2 cx=3 kx=4 cy=5 ky=6 semi=7")
         self.assertEqual(mirror, Surface("biconic", 1, 2, [3, 4, 5, 6, 7], True))
-        self.assertEqual(surface("toroid vertex=1 index=2 rx=3 cy=4 ky=5 semi=6"), Surface("toroid", 1, 2, [3, 4, 5, 6]))
+        toroid = surface("toroid vertex=1 index=2 rx=3 cy=4 ky=5 semi=6")
+        self.assertEqual(toroid, Surface("toroid", 1, 2, [3, 4, 5, 6]))
 
     def test_a_radius_is_rounded_once(self):
         self.assertEqual(surface("conic vertex=0 index=1 radius=-62.75 k=0 semi=1").numbers[0], -1 / 62.75)
         self.assertEqual(surface("conic vertex=0 index=1 radius=inf k=0 semi=1").numbers[0], 0.0)
-        self.assertEqual(surface("biconic vertex=0 index=1 radiusx=3 kx=0 radiusy=7 ky=0 semi=1").numbers[0:3:2], [1 / 3, 1 / 7])
+        both = surface("biconic vertex=0 index=1 radiusx=3 kx=0 radiusy=7 ky=0 semi=1")
+        self.assertEqual(both.numbers[0:3:2], [1 / 3, 1 / 7])
 
     def test_ray_comments_and_blank_lines(self):
         located = read(f"# one\n\n  {RAY} # two\n\t{PLANE}\n")
@@ -65,9 +67,11 @@ class Text(trying.Refusing, unittest.TestCase):
         self.assertEqual(read("").prescription, Prescription(None, []))
 
     def test_refused_with_line_and_reason(self):
+        kinds = "conic, even, biconic, toroid"
+        nine = " ".join(f"a{i}=0" for i in range(1, 10))
         for text, line, reason in (
-            ("cone vertex=0", 1, "'cone' is no kind: there are conic, even, biconic, toroid, ray, and mirror before a kind"),
-            ("mirror", 1, "a mirror's kind is missing, one of conic, even, biconic, toroid"),
+            ("cone vertex=0", 1, f"'cone' is no kind: there are {kinds}, ray, and mirror before a kind"),
+            ("mirror", 1, f"a mirror's kind is missing, one of {kinds}"),
             ("mirror ray x=0", 1, "'ray' is no kind"),
             (f"\n{PLANE} d=1", 2, "a surface of kind conic has no 'd': it has vertex, index, c, k, semi"),
             (f"{PLANE} k=1", 1, "k is given twice"),
@@ -84,7 +88,7 @@ class Text(trying.Refusing, unittest.TestCase):
             ("even vertex=0 index=1 c=0 k=0 semi=1 a1=0 a3=0", 1, "a3 is given without a2"),
             ("even vertex=0 index=1 c=0 k=0 semi=1 a10=0", 1, "a10 is given without a1"),
             ("even vertex=0 index=1 c=0 k=0 semi=1 a01=0", 1, "has no 'a01'"),
-            ("even vertex=0 index=1 c=0 k=0 semi=1 " + " ".join(f"a{i}=0" for i in range(1, 10)), 1, "at most 8 coefficients"),
+            (f"even vertex=0 index=1 c=0 k=0 semi=1 {nine}", 1, "at most 8 coefficients"),
             (f"{PLANE}\n{RAY}", 2, "the ray comes before the surfaces"),
             (f"{RAY}\n{RAY}", 2, "there is a ray already, in line 1"),
             ("ray x=0", 1, "y is missing: a ray needs it"),
@@ -115,7 +119,8 @@ class Bytes(unittest.TestCase):
     def test_any_recipe_goes_back(self):
         draw = random.Random(2)
         for _ in range(200):
-            data = b"" if draw.randrange(2) else bytes_of(0, [0.0] * 7)[:4] + draw.getrandbits(448).to_bytes(56, "little")
+            ray = bytes_of(0, [0.0] * 7)[:4] + draw.getrandbits(448).to_bytes(56, "little")
+            data = draw.choice([b"", ray])
             for _ in range(draw.randrange(5)):
                 kind, count = draw.choice([(1, 5), (2, 5), (2, 9), (2, 13), (3, 7), (4, 6)])
                 head = struct.pack("<HH", 2 + 8 * count, kind + 256 * draw.randrange(2))
@@ -151,7 +156,8 @@ class Bytes(unittest.TestCase):
             "even vertex=0 index=1 c=0 k=0 semi=-1 a1=inf",
             "conic vertex=0 index=-0 c=0 k=0 semi=-0",
         ))
-        self.assertEqual([fault[:2] for fault in faults(read(bad).prescription)], [(0, 3), (1, 2), (2, 2), (3, 4), (None, 2)])
+        found = [fault[:2] for fault in faults(read(bad).prescription)]
+        self.assertEqual(found, [(0, 3), (1, 2), (2, 2), (3, 4), (None, 2)])
         cut = parsed(file(read(bad).prescription) + b"\0")
         self.assertEqual([fault[:2] for fault in faults(cut)][3:], [(3, 4), (4, 10), (None, 2)])
 

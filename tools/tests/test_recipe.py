@@ -2,7 +2,7 @@ import os
 import tempfile
 import unittest
 
-from trying import NAMES, SAMPLES, Refusing, ran
+from trying import NAMES, NO_RADIUS, SAMPLES, Refusing, ran
 
 
 class Recipe(Refusing, unittest.TestCase):
@@ -26,9 +26,9 @@ class Recipe(Refusing, unittest.TestCase):
             self.assertEqual(done.err, "standard input: warning: there is no surface: a trace is done at once\n")
 
     def test_byte_order_mark_and_other_line_ends(self):
-        text = (SAMPLES / "doublet.txt").read_bytes()
+        text, data = ((SAMPLES / name).read_bytes() for name in ("doublet.txt", "doublet"))
         for end in (b"\r\n", b"\r"):
-            self.assertEqual(ran("recipe", given=b"\xef\xbb\xbf" + text.replace(b"\n", end)).out, (SAMPLES / "doublet").read_bytes())
+            self.assertEqual(ran("recipe", given=b"\xef\xbb\xbf" + text.replace(b"\n", end)).out, data)
 
     def test_warnings_name_the_refusal(self):
         done = ran("recipe", given=b"\nconic vertex=0 index=1 c=0 k=0 semi=-1\n")
@@ -40,10 +40,10 @@ class Recipe(Refusing, unittest.TestCase):
     def test_a_toroid_without_a_radius(self):
         done = ran("recipe", given=b"\ntoroid vertex=0 index=1 rx=0 cy=0.1 ky=0 semi=1\n")
         self.assertEqual((done.status, len(done.out)), (0, 52))
-        self.assertEqual(done.err, "standard input:2: warning: rx is 0, a circle without a radius, which a beam hardly meets: "
-                                   "a cylinder is a biconic with radiusx=inf\n")
+        self.assertEqual(done.err, f"standard input:2: warning: {NO_RADIUS}\n")
         self.assertIn("standard input: byte 0: warning: rx is 0", ran("recipe", "--back", given=done.out).err)
-        self.assertEqual(ran("recipe", given=b"biconic vertex=0 index=1 radiusx=inf kx=0 radiusy=9 ky=0 semi=1").err, "")
+        cylinder = b"biconic vertex=0 index=1 radiusx=inf kx=0 radiusy=9 ky=0 semi=1"
+        self.assertEqual(ran("recipe", given=cylinder).err, "")
 
     def test_refusals(self):
         self.assert_refused(ran("recipe", given=b"\ncone"), "standard input:2: 'cone' is no kind")
@@ -53,7 +53,8 @@ class Recipe(Refusing, unittest.TestCase):
         self.assert_refused(ran("recipe", "no such file"), "no such file: No such file or directory")
         self.assert_refused(ran("recipe", "--back", SAMPLES / "doublet.txt"), "byte 0: ")
         cut = (SAMPLES / "doublet").read_bytes()[:-1]
-        self.assert_refused(ran("recipe", "--back", given=cut), "byte 192: surface 3: cut short: 43 of the record's 44 bytes")
+        said = "byte 192: surface 3: cut short: 43 of the record's 44 bytes"
+        self.assert_refused(ran("recipe", "--back", given=cut), said)
         self.assert_refused(ran("recipe", "--back", given=os.urandom(3)), "byte 0: surface 0: cut short")
 
     def test_usage(self):

@@ -40,7 +40,8 @@ class Sags(unittest.TestCase):
         self.assertEqual((points[0], points[len(points) // 2]), ((11.5625, -5), (10, 0)))
 
     def test_where_surfaces_cross(self):
-        front, back, apart = (surface(f"conic vertex={z} index=1 radius={r} k=0 semi=4") for z, r in ((0, 5), (1, -5), (9, -5)))
+        lines = (f"conic vertex={z} index=1 radius={r} k=0 semi=4" for z, r in ((0, 5), (1, -5), (9, -5)))
+        front, back, apart = map(surface, lines)
         self.assertAlmostEqual(crossing(front, back, 1), math.sqrt(25 - 4.5**2))
         self.assertIsNone(crossing(front, apart, 0))
 

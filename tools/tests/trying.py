@@ -12,7 +12,31 @@ LISTINGS = TOOLS / "tests" / "listings"
 CRATES = TOOLS.parent / "crates"
 NAMES = ("doublet", "phone", "mirrors", "toroid")
 
+# what is said of a toroid with rx 0
+NO_RADIUS = ("rx is 0, a circle without a radius, which a beam hardly meets: "
+             "a cylinder is a biconic with radiusx=inf")
+
 sys.path.insert(0, str(TOOLS))
+from numerals import pattern
+
+ZERO = pattern(0.0)
+
+
+def record_line(number, status, steps, *slots):
+    """As `tracelist` prints it. Slots that are not given are blank."""
+    return " ".join([f"{number} {status} {steps}", *map(pattern, slots), *[ZERO] * (11 - len(slots))])
+
+
+def refused_at_first(number, *slots):
+    """The listing of a trace whose first surface is refused in one step."""
+    return f"{record_line(0, number, 1, *slots)}\nend {number} 1 {ZERO}\n"
+
+
+# a plane that is hit, how a trace of it ends, and two ways in which the surface behind it is refused
+HIT_LINE = record_line(0, 1, 1, 5.0, 0.0, 0.0, 0.0, 0.0, 0.0, -1.0, 0.0, 0.0, 1.0, 1.0)
+END_LINE = f"end 1 1 {pattern(5.0)}"
+MISSED_LINE = record_line(1, 6, 3)
+VIGNETTED_LINE = record_line(1, 7, 1, 12.0, 10.0)
 
 
 class Ran:
@@ -45,9 +69,18 @@ def ran(tool, *arguments, given=b""):
 
 def started(shell):
     """A process of its own, by a line of the shell in which T stands for the tools' folder and S for the samples'."""
-    done = subprocess.run(["sh", "-c", shell], stdout=subprocess.PIPE, stderr=subprocess.PIPE, stdin=subprocess.DEVNULL,
-                          env={"T": str(TOOLS), "S": str(SAMPLES), "PATH": "/usr/local/bin:/usr/bin:/bin", "PYTHONDONTWRITEBYTECODE": "1"})
+    names = {"T": str(TOOLS), "S": str(SAMPLES), "PATH": "/usr/local/bin:/usr/bin:/bin", "PYTHONDONTWRITEBYTECODE": "1"}
+    done = subprocess.run(["sh", "-c", shell], capture_output=True, stdin=subprocess.DEVNULL, env=names)
     return Ran(done.returncode, done.stdout, done.stderr)
+
+
+def refusal_by(bad, reader, *given):
+    """Line and reason with which a reader refuses, by the exception that it raises then; None where it does not."""
+    try:
+        reader(*given)
+    except bad as wrong:
+        return wrong.line, wrong.reason
+    return None
 
 
 class Refusing:

@@ -1,7 +1,8 @@
 //! A row of a table: ours beside the Rust text's, in one run on the same rays.
 //!
-//! A row goes through its rays, origin and direction of each waiting for the last answer, as in a trace; then without waiting. The two
-//! sides take turns, PASSES times, and the least time of each counts. Their answers have to be the same bits.
+//! A row goes through its rays, origin and direction of each waiting for the last answer, as in a trace; then without
+//! waiting. The two sides take turns, PASSES times, and the least time of each counts. Their answers have to be the
+//! same bits.
 
 use std::hint::black_box;
 use std::time::Instant;
@@ -21,7 +22,12 @@ pub fn numbers(origin: Vec3, direction: Vec3) -> Numbers {
 }
 
 pub fn ray(r: &Numbers) -> Ray {
-    Ray { origin: Vec3::new(r[0], r[1], r[2]), direction: Vec3::new(r[3], r[4], r[5]), wavelength_nm: 587.0, energy: 1.0 }
+    Ray {
+        origin: Vec3::new(r[0], r[1], r[2]),
+        direction: Vec3::new(r[3], r[4], r[5]),
+        wavelength_nm: 587.0,
+        energy: 1.0,
+    }
 }
 
 /// A fixed sequence of numbers from -1 to 1.
@@ -86,6 +92,7 @@ pub fn row(name: &str, rays: &[Numbers], ours: Side, rust: Side) {
         2 => rushing(ours, rays),
         _ => rushing(rust, rays),
     });
-    let ns = least.map(|t| t / rays.len() as f64 * 1e9);
-    println!("{name:26} {:5.2} {:5.2}   ({:.1} / {:.1} ns, {:.1} / {:.1} ns; {hits} of {} hit)", ns[0] / ns[1], ns[2] / ns[3], ns[0], ns[1], ns[2], ns[3], rays.len());
+    let [a, b, c, d] = least.map(|t| t / rays.len() as f64 * 1e9);
+    let times = format!("{a:.1} / {b:.1} ns, {c:.1} / {d:.1} ns");
+    println!("{name:26} {:5.2} {:5.2}   ({times}; {hits} of {} hit)", a / b, c / d, rays.len());
 }

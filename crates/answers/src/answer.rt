@@ -1,13 +1,18 @@
 // What is printed of an answer.
+use lines::COUNT_BYTES;
+use lines::FLOAT_BYTES;
 use lines::put_count;
 use lines::put_floats;
 use lines::put_word;
 use lines::write_line;
+use surfaces::ACCEPTED;
+use surfaces::Acceptance;
 use surfaces::Coefficients;
 use surfaces::ConicSurface;
 use surfaces::Crossing;
 use surfaces::Direction;
 use surfaces::EvenAsphere;
+use surfaces::MOST_COEFFICIENTS;
 use surfaces::Meet;
 use surfaces::NewBiconic;
 use surfaces::NewConic;
@@ -19,34 +24,45 @@ use surfaces::OddAsphere;
 use surfaces::Pair;
 use surfaces::Refusal;
 use surfaces::Sag;
+use surfaces::VIGNETTED;
 use surfaces::Vec3;
-use surfaces::Verdict;
 use surfaces::line_of;
 
-// Document 01's number, or 0 for a line that cannot be read, and the first `count` of the values. An odd asphere has the most.
-pub struct Answer {
+// The number of an answer with values, and one for a line that cannot be read; any other is a refusal's.
+const ANSWERED: u64 = ACCEPTED as u64;
+
+const UNREADABLE: u64 = 0;
+
+// An odd asphere has the most values: c, k, the semi-diameter and both its lists of coefficients.
+const MOST_VALUES: usize = 3 + 2 * MOST_COEFFICIENTS;
+
+// The most bytes of a line.
+const LINE_BYTES: usize = COUNT_BYTES + MOST_VALUES * FLOAT_BYTES;
+
+// The table's number (SCOPE T1), or 0 for a line that cannot be read, and the first `count` of the values.
+pub struct Printed {
     pub number: u64,
     pub count: usize,
-    pub values: [f64; 19],
+    pub values: [f64; MOST_VALUES],
 }
 
-pub(crate) fn unreadable() -> Answer {
-    numbered(0)
+pub(crate) fn unreadable() -> Printed {
+    numbered(UNREADABLE)
 }
 
-fn done() -> Answer {
-    numbered(1)
+fn done() -> Printed {
+    numbered(ANSWERED)
 }
 
-pub(crate) fn just(x: f64) -> Answer {
+pub(crate) fn just(x: f64) -> Printed {
     done().with(x)
 }
 
-fn numbered(number: u64) -> Answer {
-    Answer {
+fn numbered(number: u64) -> Printed {
+    Printed {
         number,
         count: 0,
-        values: [0.0; 19],
+        values: [0.0; MOST_VALUES],
     }
 }
 
@@ -54,14 +70,14 @@ pub(crate) fn truth(b: bool) -> f64 {
     if b { 1.0 } else { 0.0 }
 }
 
-impl Answer {
+impl Printed {
     // One value more, while there is room.
-    pub(crate) fn with(self, x: f64) -> Answer {
+    pub(crate) fn with(self, x: f64) -> Printed {
         let n = self.count;
         let mut values = self.values;
-        if n < 19 {
+        if n < MOST_VALUES {
             values[n] = x;
-            return Answer {
+            return Printed {
                 number: self.number,
                 count: n + 1,
                 values,
@@ -70,16 +86,16 @@ impl Answer {
         self
     }
 
-    pub(crate) fn with_vector(self, v: Vec3) -> Answer {
+    pub(crate) fn with_vector(self, v: Vec3) -> Printed {
         self.with(v.x).with(v.y).with(v.z)
     }
 
-    fn with_coefficients(self, a: Coefficients) -> Answer {
+    fn with_coefficients(self, a: Coefficients) -> Printed {
         let count = a.count;
         let values = a.values;
         let mut answer = self;
         let mut i = 0usize;
-        while i < 8 {
+        while i < MOST_COEFFICIENTS {
             if count <= i {
                 return answer;
             }
@@ -89,15 +105,15 @@ impl Answer {
         answer
     }
 
-    // Tells whether that succeeded. A digit and 19 values take 325 bytes.
+    // Tells whether that succeeded.
     pub(crate) fn print(self) -> bool {
-        let mut line = [0u8; 400];
+        let mut line = [0u8; LINE_BYTES];
         let end = self.put(&mut line);
         write_line(&mut line, end)
     }
 
     fn put(self, line: &mut [u8]) -> usize {
-        if self.number == 0 {
+        if self.number == UNREADABLE {
             return put_word(line, 0, b"?");
         }
         let count = self.count;
@@ -115,47 +131,47 @@ fn first(values: &[f64], n: usize) -> &[f64] {
     values
 }
 
-pub(crate) fn refused(e: Refusal) -> Answer {
+pub(crate) fn refused(e: Refusal) -> Printed {
     let line = line_of(e);
     let answer = numbered(line.number as u64);
-    if line.number == 7 {
+    if line.number == VIGNETTED {
         answer.with(line.r).with(line.limit)
     } else {
         answer
     }
 }
 
-pub(crate) fn number(a: Number) -> Answer {
+pub(crate) fn number(a: Number) -> Printed {
     match a {
-        Number::Is(x) => done().with(x),
+        Number::Given(x) => done().with(x),
         Number::Refused(e) => refused(e),
     }
 }
 
-pub(crate) fn sag(a: Sag) -> Answer {
+pub(crate) fn sag(a: Sag) -> Printed {
     match a {
-        Sag::At(z) => done().with(z),
+        Sag::Given(z) => done().with(z),
         Sag::Refused(e) => refused(e),
     }
 }
 
-pub(crate) fn pair(a: Pair) -> Answer {
+pub(crate) fn pair(a: Pair) -> Printed {
     match a {
-        Pair::Both(m) => done().with(m.x).with(m.y),
+        Pair::Given(m) => done().with(m.x).with(m.y),
         Pair::Refused(e) => refused(e),
     }
 }
 
-pub(crate) fn direction(a: Direction) -> Answer {
+pub(crate) fn direction(a: Direction) -> Printed {
     match a {
-        Direction::To(v) => done().with_vector(v),
+        Direction::Given(v) => done().with_vector(v),
         Direction::Refused(e) => refused(e),
     }
 }
 
-pub(crate) fn crossing(a: Crossing) -> Answer {
+pub(crate) fn crossing(a: Crossing) -> Printed {
     match a {
-        Crossing::At(l) => {
+        Crossing::Given(l) => {
             let p = l.point;
             done().with(l.t).with_vector(p)
         }
@@ -163,9 +179,9 @@ pub(crate) fn crossing(a: Crossing) -> Answer {
     }
 }
 
-pub(crate) fn meet(a: Meet) -> Answer {
+pub(crate) fn meet(a: Meet) -> Printed {
     match a {
-        Meet::Hit(h) => {
+        Meet::Given(h) => {
             let p = h.point;
             let n = h.normal;
             done().with(h.t)
@@ -177,21 +193,21 @@ pub(crate) fn meet(a: Meet) -> Answer {
     }
 }
 
-pub(crate) fn conic(s: ConicSurface) -> Answer {
+pub(crate) fn conic(s: ConicSurface) -> Printed {
     done().with(s.vertex)
         .with(s.curvature)
         .with(s.conic)
         .with(s.semi)
 }
 
-pub(crate) fn new_conic(a: NewConic) -> Answer {
+pub(crate) fn new_conic(a: NewConic) -> Printed {
     match a {
-        NewConic::Made(s) => conic(s),
+        NewConic::Given(s) => conic(s),
         NewConic::Refused(e) => refused(e),
     }
 }
 
-fn even(s: EvenAsphere) -> Answer {
+fn even(s: EvenAsphere) -> Printed {
     let a = s.coefficients;
     done().with(s.curvature)
         .with(s.conic)
@@ -199,16 +215,16 @@ fn even(s: EvenAsphere) -> Answer {
         .with_coefficients(a)
 }
 
-pub(crate) fn new_even(a: NewEven) -> Answer {
-    let verdict = a.verdict;
+pub(crate) fn new_even(a: NewEven) -> Printed {
+    let acceptance = a.acceptance;
     let s = a.surface;
-    match verdict {
-        Verdict::Accepted => even(s),
-        Verdict::Refused(e) => refused(e),
+    match acceptance {
+        Acceptance::Given => even(s),
+        Acceptance::Refused(e) => refused(e),
     }
 }
 
-fn odd(s: OddAsphere) -> Answer {
+fn odd(s: OddAsphere) -> Printed {
     let a = s.even;
     let b = s.odd;
     done().with(s.curvature)
@@ -218,18 +234,18 @@ fn odd(s: OddAsphere) -> Answer {
         .with_coefficients(b)
 }
 
-pub(crate) fn new_odd(a: NewOdd) -> Answer {
-    let verdict = a.verdict;
+pub(crate) fn new_odd(a: NewOdd) -> Printed {
+    let acceptance = a.acceptance;
     let s = a.surface;
-    match verdict {
-        Verdict::Accepted => odd(s),
-        Verdict::Refused(e) => refused(e),
+    match acceptance {
+        Acceptance::Given => odd(s),
+        Acceptance::Refused(e) => refused(e),
     }
 }
 
-pub(crate) fn new_biconic(a: NewBiconic) -> Answer {
+pub(crate) fn new_biconic(a: NewBiconic) -> Printed {
     match a {
-        NewBiconic::Made(s) => done().with(s.cx)
+        NewBiconic::Given(s) => done().with(s.cx)
             .with(s.kx)
             .with(s.cy)
             .with(s.ky)
@@ -238,9 +254,9 @@ pub(crate) fn new_biconic(a: NewBiconic) -> Answer {
     }
 }
 
-pub(crate) fn new_toroid(a: NewToroid) -> Answer {
+pub(crate) fn new_toroid(a: NewToroid) -> Printed {
     match a {
-        NewToroid::Made(s) => done().with(s.rx).with(s.cy).with(s.ky).with(s.semi),
+        NewToroid::Given(s) => done().with(s.rx).with(s.cy).with(s.ky).with(s.semi),
         NewToroid::Refused(e) => refused(e),
     }
 }

@@ -1,6 +1,6 @@
-// The operations of even and odd aspheres. The surface is a question's last operand, and ends with its coefficients, as many as there are.
+// The operations of even and odd aspheres. The surface is a question's last operand, and ends with its coefficients.
 ghost use Prim.Native.Nat.{_+_, _≤_};
-use crate::answer::Answer;
+use crate::answer::Printed;
 use crate::answer::crossing;
 use crate::answer::direction;
 use crate::answer::new_even;
@@ -13,10 +13,11 @@ use crate::operands::ray;
 use crate::table::look_up;
 use surfaces::Coefficients;
 use surfaces::EvenAsphere;
+use surfaces::MOST_COEFFICIENTS;
 use surfaces::OddAsphere;
 
 // The table has the numbers without coefficients.
-pub(crate) fn answer_even(method: &[u8], v: &Values, count: usize) -> Answer
+pub(crate) fn answer_even(method: &[u8], v: &Values, count: usize) -> Printed
     requires { ⌜ count ≤ 64 ⌝ }
 {
     let entry = look_up(
@@ -34,7 +35,7 @@ pub(crate) fn answer_even(method: &[u8], v: &Values, count: usize) -> Answer
     of_even(entry.row, even_at(v, least - 3, count - least), v)
 }
 
-fn of_even(row: u64, s: EvenAsphere, v: &Values) -> Answer {
+fn of_even(row: u64, s: EvenAsphere, v: &Values) -> Printed {
     let a = s.coefficients;
     let x = v[0];
     let y = v[1];
@@ -60,13 +61,13 @@ fn even_at(v: &Values, at: usize, count: usize) -> EvenAsphere
     }
 }
 
-// So many from a place on, of which the first 8 have a slot.
+// So many from a place on, of which the first ones have a slot.
 fn coefficients(v: &Values, at: usize, count: usize) -> Coefficients
     requires { ⌜ at + count ≤ 64 ⌝ }
 {
-    let mut values = [0.0; 8];
+    let mut values = [0.0; MOST_COEFFICIENTS];
     let mut i = 0usize;
-    while i < 8 {
+    while i < MOST_COEFFICIENTS {
         if count <= i {
             return Coefficients { count, values };
         }
@@ -77,7 +78,7 @@ fn coefficients(v: &Values, at: usize, count: usize) -> Coefficients
 }
 
 // The table has the numbers before the count of even coefficients.
-pub(crate) fn answer_odd(name: &[u8], v: &Values, before: usize, even: usize, odd: usize) -> Answer
+pub(crate) fn answer_odd(name: &[u8], v: &Values, before: usize, even: usize, odd: usize) -> Printed
     requires { ⌜ before + even + odd ≤ 64 ⌝ }
 {
     let entry = look_up(name, b"odd_new 3 odd_sag 4 odd_normal 5");
@@ -91,7 +92,7 @@ pub(crate) fn answer_odd(name: &[u8], v: &Values, before: usize, even: usize, od
     of_odd(entry.row, odd_at(v, before - 3, even, odd), v[0], v[1])
 }
 
-fn of_odd(row: u64, s: OddAsphere, x: f64, y: f64) -> Answer {
+fn of_odd(row: u64, s: OddAsphere, x: f64, y: f64) -> Printed {
     let even = s.even;
     let odd = s.odd;
     match row {

@@ -1,6 +1,6 @@
 // The operations of biconics and toroids. The surface is a question's last operand.
 ghost use Prim.Native.Nat.{_≤_};
-use crate::answer::Answer;
+use crate::answer::Printed;
 use crate::answer::crossing;
 use crate::answer::direction;
 use crate::answer::just;
@@ -10,26 +10,21 @@ use crate::answer::pair;
 use crate::answer::sag;
 use crate::answer::unreadable;
 use crate::operands::Values;
+use crate::operands::last;
 use crate::operands::ray;
-use crate::table::look_up;
+use crate::table::row_of;
 use surfaces::BiconicSurface;
 use surfaces::ToroidalSurface;
 
-pub(crate) fn answer_biconic(method: &[u8], v: &Values, count: usize) -> Answer
+pub(crate) fn answer_biconic(method: &[u8], v: &Values, count: usize) -> Printed
     requires { ⌜ count ≤ 64 ⌝ }
 {
-    let entry = look_up(
+    let row = row_of(
         method,
         b"new 5 paraxial 5 rx 5 ry 5 sag 7 derivatives 7 normal 7 intersect 12",
+        count,
     );
-    if entry.numbers != count {
-        return unreadable();
-    }
-    // no row has less
-    if count < 5 {
-        return unreadable();
-    }
-    of_biconic(entry.row, biconic_at(v, count - 5), v)
+    of_biconic(row, biconic_at(v, last(5, count)), v)
 }
 
 fn biconic_at(v: &Values, at: usize) -> BiconicSurface
@@ -44,7 +39,7 @@ fn biconic_at(v: &Values, at: usize) -> BiconicSurface
     }
 }
 
-fn of_biconic(row: u64, s: BiconicSurface, v: &Values) -> Answer {
+fn of_biconic(row: u64, s: BiconicSurface, v: &Values) -> Printed {
     let x = v[0];
     let y = v[1];
     match row {
@@ -55,25 +50,20 @@ fn of_biconic(row: u64, s: BiconicSurface, v: &Values) -> Answer {
         4 => sag(s.sag(x, y)),
         5 => pair(s.derivatives(x, y)),
         6 => direction(s.normal(x, y)),
-        _ => crossing(s.intersect_ray(ray(v), v[6])),
+        7 => crossing(s.intersect_ray(ray(v), v[6])),
+        _ => unreadable(),
     }
 }
 
-pub(crate) fn answer_toroid(method: &[u8], v: &Values, count: usize) -> Answer
+pub(crate) fn answer_toroid(method: &[u8], v: &Values, count: usize) -> Printed
     requires { ⌜ count ≤ 64 ⌝ }
 {
-    let entry = look_up(
+    let row = row_of(
         method,
         b"new 4 ry 4 sag 6 derivatives 6 normal 6 intersect 11",
+        count,
     );
-    if entry.numbers != count {
-        return unreadable();
-    }
-    // no row has less
-    if count < 4 {
-        return unreadable();
-    }
-    of_toroid(entry.row, toroid_at(v, count - 4), v)
+    of_toroid(row, toroid_at(v, last(4, count)), v)
 }
 
 fn toroid_at(v: &Values, at: usize) -> ToroidalSurface
@@ -87,7 +77,7 @@ fn toroid_at(v: &Values, at: usize) -> ToroidalSurface
     }
 }
 
-fn of_toroid(row: u64, s: ToroidalSurface, v: &Values) -> Answer {
+fn of_toroid(row: u64, s: ToroidalSurface, v: &Values) -> Printed {
     let x = v[0];
     let y = v[1];
     match row {
@@ -96,6 +86,7 @@ fn of_toroid(row: u64, s: ToroidalSurface, v: &Values) -> Answer {
         2 => sag(s.sag(x, y)),
         3 => pair(s.derivatives(x, y)),
         4 => direction(s.normal(x, y)),
-        _ => crossing(s.intersect_ray(ray(v), v[6])),
+        5 => crossing(s.intersect_ray(ray(v), v[6])),
+        _ => unreadable(),
     }
 }

@@ -1,6 +1,7 @@
-// Answers each question on standard input. A question is a line: an operation, and the bit patterns of the numbers that the function
-// of that name in `numbers` or `surfaces` is asked about. Its answer is a line: document 01's number, and the bit patterns of the
-// values that the function hands out. A line that cannot be read as its operation wants is answered `?`.
+// Answers each question on standard input. A question is a line: an operation, and the bit patterns of the numbers that
+// the function of that name in `numbers` or `surfaces` is asked about. Its answer is a line: the number of the table
+// (SCOPE T1), and the bit patterns of the values that the function hands out. A line that cannot be read as its
+// operation wants is answered `?`.
 mod answer;
 mod asphere;
 mod biconic;
@@ -10,7 +11,7 @@ mod plain;
 mod table;
 
 ghost use Prim.Native.Nat.{_≤_};
-use answer::Answer;
+use answer::Printed;
 use answer::unreadable;
 use asphere::answer_even;
 use asphere::answer_odd;
@@ -18,7 +19,8 @@ use biconic::answer_biconic;
 use biconic::answer_toroid;
 use check::same;
 use conic::answer_conic;
-use lines::Line;
+use lines::LONGEST_LINE;
+use lines::ReadLine;
 use lines::Unread;
 use lines::next_line;
 use lines::next_word;
@@ -29,10 +31,10 @@ use operands::read_operands;
 use plain::answer_plain;
 
 // The longest line that is read, and its line feed.
-const BUFFER: usize = 131201;
+const BUFFER: usize = LONGEST_LINE + 1;
 
 // What stands before a name's first `_` tells of which kind of surface it is, if of any.
-fn answer_numbers(name: &[u8], v: &Values, count: usize) -> Answer
+fn answer_numbers(name: &[u8], v: &Values, count: usize) -> Printed
     requires { ⌜ count ≤ 64 ⌝ }
 {
     let end = name.len();
@@ -54,23 +56,23 @@ fn answer_numbers(name: &[u8], v: &Values, count: usize) -> Answer
     answer_plain(name, v, count)
 }
 
-fn answer_line(line: &[u8]) -> Answer {
+fn answer_line(line: &[u8]) -> Printed {
     let mut values = [0.0; 64];
     let word = next_word(line, 0);
     let name = part(line, word.start, word.end);
     match read_operands(line, word.end, &mut values) {
         Operands::Plain(count) => answer_numbers(name, &values, count),
-        Operands::Marked(before, even, odd) => answer_odd(name, &values, before, even, odd),
+        Operands::Marked { before, even, odd } => answer_odd(name, &values, before, even, odd),
         Operands::Unreadable => unreadable(),
     }
 }
 
 // Tells whether to go on.
-fn answer_next(line: Line, buffer: &[u8]) -> bool {
+fn answer_next(line: ReadLine, buffer: &[u8]) -> bool {
     match line {
-        Line::At(start, end) => answer_line(part(buffer, start, end)).print(),
-        Line::TooLong => unreadable().print(),
-        Line::End => false,
+        ReadLine::Given { start, end } => answer_line(part(buffer, start, end)).print(),
+        ReadLine::TooLong => unreadable().print(),
+        ReadLine::End => false,
     }
 }
 

@@ -15,8 +15,12 @@ pub type Values = [f64; 64];
 pub enum Operands {
     // So many numbers.
     Plain(usize),
-    // So many numbers, `#n`, n numbers, and so many more.
-    Marked(usize, usize, usize),
+    // So many numbers, `#even`, so many even coefficients, and so many odd ones.
+    Marked {
+        before: usize,
+        even: usize,
+        odd: usize,
+    },
     Unreadable,
 }
 
@@ -36,7 +40,7 @@ pub(crate) fn read_operands(line: &[u8], at: usize, values: &mut Values) -> Oper
         return Operands::Plain(first.count);
     }
     match read_mark(part(line, word.start, word.end)) {
-        ReadCount::Is(n) => read_marked(line, word.end, first.count, n as usize, values),
+        ReadCount::Given(n) => read_marked(line, word.end, first.count, n as usize, values),
         ReadCount::Unreadable => Operands::Unreadable,
     }
 }
@@ -51,7 +55,7 @@ fn read_numbers(line: &[u8], at: usize, held: usize, values: &mut Values) -> Num
     while count < 64 {
         let word = next_word(line, end);
         match read_float(part(line, word.start, word.end)) {
-            ReadFloat::Is(x) => {
+            ReadFloat::Given(x) => {
                 values[count] = x;
             }
             ReadFloat::Unreadable => {
@@ -93,7 +97,19 @@ fn read_marked(line: &[u8], at: usize, before: usize, n: usize, values: &mut Val
     if behind < n {
         return Operands::Unreadable;
     }
-    Operands::Marked(before, n, behind - n)
+    Operands::Marked {
+        before,
+        even: n,
+        odd: behind - n,
+    }
+}
+
+// Where the last n of so many numbers begin: at the first, if there are fewer, which no operation takes.
+pub(crate) fn last(n: usize, count: usize) -> usize
+    requires { ⌜ (n ≤ 64) × (count ≤ 64) ⌝ }
+    ensures { λ r. ⌜ r + n ≤ 64 ⌝ }
+{
+    if count < n { 0 } else { count - n }
 }
 
 pub(crate) fn vector(v: &Values, at: usize) -> Vec3

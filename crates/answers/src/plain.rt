@@ -1,31 +1,29 @@
 // The operations on numbers and directions.
-use crate::answer::Answer;
+use crate::answer::Printed;
 use crate::answer::direction;
 use crate::answer::just;
 use crate::answer::truth;
 use crate::answer::unreadable;
 use crate::operands::Values;
 use crate::operands::vector;
-use crate::table::look_up;
+use crate::table::row_of;
 use surfaces::reflect;
 use surfaces::snell_refract;
 
-pub(crate) fn answer_plain(name: &[u8], v: &Values, count: usize) -> Answer {
-    let entry = look_up(
+pub(crate) fn answer_plain(name: &[u8], v: &Values, count: usize) -> Printed {
+    let row = row_of(
         name,
         b"sqrt 1 abs 1 clamp 1 finite 1 max 2 reflect 6 refract 8",
+        count,
     );
-    if entry.numbers != count {
-        return unreadable();
-    }
-    let row = entry.row;
     if row < 5 {
         return just(of_numbers(row, v[0], v[1]));
     }
-    if row == 5 {
-        return direction(reflect(vector(v, 0), vector(v, 3)));
+    match row {
+        5 => direction(reflect(vector(v, 0), vector(v, 3))),
+        6 => direction(snell_refract(vector(v, 0), vector(v, 3), v[6], v[7])),
+        _ => unreadable(),
     }
-    direction(snell_refract(vector(v, 0), vector(v, 3), v[6], v[7]))
 }
 
 fn of_numbers(row: u64, x: f64, y: f64) -> f64 {

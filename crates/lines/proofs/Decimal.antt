@@ -6,7 +6,7 @@ use native.Mathlib.Omega.{arith}
 use lib.Dec.{lit<}
 use borrow.Author.Tests.{lt-ltb, le-ltb}
 use Rattle.io.specs.Digits.{digits, Fewest}
-use Rattle.lines.specs.Text.{decimalText}
+use Rattle.lines.specs.Output.{decimalText}
 
 -- a number of j + 1 digits
 spelled : (k j n : ℕ) → j < k → n < 10 ^ suc j → (0 < j → 10 ^ j ≤ n) → decimalText k n ≡ digits 10 (suc j) n

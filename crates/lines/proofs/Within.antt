@@ -1,24 +1,24 @@
 -- A count that was read keeps to its bound. Assumes nothing.
 use Prim.Native.Nat.{ℕ, _+_, _*_, _≤_}
-use mathlib.Core.Bool.{Bool, true, false}
+use mathlib.Core.Bool.{Bool, false}
 use mathlib.Core.List.{List, [], _∷_}
-use mathlib.Core.Path.{_≡_, refl}
+use mathlib.Core.Path.{_≡_}
 use native.Mathlib.Omega.{arith}
 use lib.Dec.{eqb, leb, ltb}
 use lib.ListN.{length}
 use borrow.Author.Tests.{ltb-false}
 use Rattle.numbers.specs.Arithmetic.{if_then_else_}
+use Rattle.numbers.proofs.Choice.{by-test}
 use Rattle.lines.specs.Digits.{digitValue, spelled, readCount}
 use Rattle.lines.specs.declared.digits.ReadCount.{ReadCount}
-use Rattle.lines.specs.declared.digits.ReadCount.the-variants.{Is, Unreadable}
+use Rattle.lines.specs.declared.digits.ReadCount.the-variants.{Given, Unreadable}
 
 abbrev pub Within : ℕ → ReadCount → Type 0
-Within most (Is n) = n ≤ most
+Within most (Given n) = n ≤ most
 Within most Unreadable = Unit {0}
 
 unless : (most : ℕ) (b : Bool) (y : ReadCount) → (b ≡ false → Within most y) → Within most (if b then Unreadable else y)
-unless most true y h = tt
-unless most false y h = h refl
+unless most b y h = by-test (Within most) b Unreadable y (λ _. tt) h
 
 spelled-within : (base most n : ℕ) (word : List ℕ) → n ≤ most → Within most (spelled base most n word)
 unfolding spelled

@@ -20,9 +20,10 @@ digitValue b =
     if ltb b 97 then 16 else
     if ltb b 103 then b - 97 + 10 else 16
 
--- The number that digits spell in a base, after others that spell n. It grows with each digit, so one above the bound stays there.
+-- The number that digits spell in a base, after others that spell n. It grows with each digit, so one above the bound
+-- stays there.
 unfoldable pub spelled : ℕ → ℕ → ℕ → List ℕ → ReadCount
-spelled base most n [] = count.Is n
+spelled base most n [] = count.Given n
 spelled base most n (b ∷ rest) =
     if leb base (digitValue b) then count.Unreadable else
     if ltb most (n * base + digitValue b) then count.Unreadable else
@@ -34,7 +35,7 @@ readCount most word =
     if eqb (length word) 0 then count.Unreadable else spelled 10 most 0 word
 
 unfoldable pub floatOf : ReadCount → ReadFloat
-floatOf (count.Is bits) = float.Is (ofBits binary64 bits)
+floatOf (count.Given bits) = float.Given (ofBits binary64 bits)
 floatOf count.Unreadable = float.Unreadable
 
 -- the binary64 number of a pattern of 16 hexadecimal digits

@@ -5,12 +5,12 @@ ghost use Rattle.lines.specs.Digits.{digitValue, spelled, readCount, rea
 use numbers::from_bits;
 
 pub enum ReadCount {
-    Is(u64),
+    Given(u64),
     Unreadable,
 }
 
 pub enum ReadFloat {
-    Is(f64),
+    Given(f64),
     Unreadable,
 }
 
@@ -51,7 +51,7 @@ fn spelled(word: &[u8], base: u64, most: u64) -> ReadCount
         }
         n = n * base + value;
     }
-    ReadCount::Is(n)
+    ReadCount::Given(n)
 }
 
 // A decimal number, at most `most`.
@@ -72,7 +72,7 @@ pub fn read_float(word: &[u8]) -> ReadFloat
         return ReadFloat::Unreadable;
     }
     match spelled(word, 16, u64::MAX) {
-        ReadCount::Is(bits) => ReadFloat::Is(from_bits(bits)),
+        ReadCount::Given(bits) => ReadFloat::Given(from_bits(bits)),
         ReadCount::Unreadable => ReadFloat::Unreadable,
     }
 }

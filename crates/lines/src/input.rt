@@ -1,8 +1,12 @@
-// The lines of standard input, one after the other, in a buffer that the caller lends. A read that fails counts as the input's end.
+// The lines of standard input, one after the other, in a buffer that the caller lends. A read that fails counts as the
+// input's end.
 ghost use Prim.Native.Nat.{_+_, _≤_};
 ghost use mathlib.Core.Path.{_≡_};
 ghost use lib.ListN.{length};
 use libc::STDIN_FILENO;
+
+// How many characters the test programs take in a line.
+pub const LONGEST_LINE: usize = 131200;
 
 // Where the bytes that were read and not yet handed out stand in the buffer.
 pub struct Unread {
@@ -10,9 +14,9 @@ pub struct Unread {
     pub to: usize,
 }
 
-pub enum Line {
-    // From the first place of the buffer up to the second, without the line feed.
-    At(usize, usize),
+pub enum ReadLine {
+    // From one place of the buffer up to another, without the line feed.
+    Given { start: usize, end: usize },
     // It does not fit the buffer with its line feed, and was passed over.
     TooLong,
     // The input has ended.
@@ -20,11 +24,12 @@ pub enum Line {
 }
 
 pub struct Next {
-    pub line: Line,
+    pub line: ReadLine,
     pub unread: Unread,
 }
 
-// The next line. The last one may lack its line feed. What it is depends on what is read, of which nothing can be promised.
+// The next line. The last one may lack its line feed. What it is depends on what is read, of which nothing can be
+// promised.
 pub fn next_line(buffer: &mut [u8], unread: Unread) -> Next
     ensures { λ r. ⌜ length (now (buffer .exit)) ≡ length (now (buffer .entry)) ⌝ }
 {
@@ -33,7 +38,7 @@ pub fn next_line(buffer: &mut [u8], unread: Unread) -> Next
     let end = bytes::scan::find(buffer, from, to, b'\n');
     if end < to {
         return Next {
-            line: Line::At(from, end),
+            line: ReadLine::Given { start: from, end },
             unread: Unread { from: end + 1, to },
         };
     }
@@ -71,7 +76,7 @@ fn read_line(buffer: &mut [u8], held: usize) -> Next
         let end = bytes::scan::find(buffer, to, next, b'\n');
         if end < next {
             return Next {
-                line: Line::At(0, end),
+                line: ReadLine::Given { start: 0, end },
                 unread: Unread {
                     from: end + 1,
                     to: next,
@@ -81,7 +86,7 @@ fn read_line(buffer: &mut [u8], held: usize) -> Next
         to = next;
     }
     Next {
-        line: Line::TooLong,
+        line: ReadLine::TooLong,
         unread: pass_over(buffer),
     }
 }
@@ -90,18 +95,18 @@ fn last_line(to: usize) -> Next {
     let unread = Unread { from: to, to };
     if to == 0 {
         return Next {
-            line: Line::End,
+            line: ReadLine::End,
             unread,
         };
     }
     Next {
-        line: Line::At(0, to),
+        line: ReadLine::Given { start: 0, end: to },
         unread,
     }
 }
 
-// Passes over the rest of a line, and answers what was read behind it. Nothing says that the line ends, and a proved loop has to: the
-// turns count down from a number that no run uses up.
+// Passes over the rest of a line, and answers what was read behind it. Nothing says that the line ends, and a proved
+// loop has to: the turns count down from a number that no run uses up.
 fn pass_over(buffer: &mut [u8]) -> Unread {
     let mut turns = u64::MAX;
     while turns > 0 {

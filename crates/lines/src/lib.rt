@@ -1,5 +1,5 @@
-// Lines of words: read from standard input, taken apart, put together, and written to standard output. No function asks anything of
-// its caller. A buffer is lent, and its length is the limit of what it is lent for.
+// Lines of words: read from standard input, taken apart, put together, and written to standard output. No function asks
+// anything of its caller. A buffer is lent, and its length is the limit of what it is lent for.
 mod digits;
 mod input;
 mod output;
@@ -10,10 +10,13 @@ pub use digits::ReadFloat;
 pub use digits::digit_value;
 pub use digits::read_count;
 pub use digits::read_float;
-pub use input::Line;
+pub use input::LONGEST_LINE;
 pub use input::Next;
+pub use input::ReadLine;
 pub use input::Unread;
 pub use input::next_line;
+pub use output::COUNT_BYTES;
+pub use output::FLOAT_BYTES;
 pub use output::bits_of;
 pub use output::put_count;
 pub use output::put_float;

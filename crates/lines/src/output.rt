@@ -1,12 +1,23 @@
-// A line of words, put together in a buffer that the caller lends. A space follows each word, and the line feed takes the last one's
-// place.
+// A line of words, put together in a buffer that the caller lends. A space follows each word, and the line feed takes
+// the last one's place.
 ghost use mathlib.Core.Path.{_≡_};
 ghost use Prim.Native.Nat.{_<_};
 ghost use lib.Ieee.{binary64, toBits};
-ghost use Rattle.lines.specs.Text.{glyph, hexText, decimalText, put, putFloats, ended};
+ghost use Rattle.lines.specs.Output.{glyph, hexText, decimalText, put, putFloats, ended};
 use libc::STDOUT_FILENO;
 
-// Puts a word and a space from a place on, and answers the next place. Where there is no room it puts nothing, and the place stays.
+// How many digits a count has at most, and a pattern always.
+const COUNT_DIGITS: usize = 20;
+
+const FLOAT_DIGITS: usize = 16;
+
+// How many bytes they take, with the space behind.
+pub const COUNT_BYTES: usize = COUNT_DIGITS + 1;
+
+pub const FLOAT_BYTES: usize = FLOAT_DIGITS + 1;
+
+// Puts a word and a space from a place on, and answers the next place. Where there is no room it puts nothing, and the
+// place stays.
 pub fn put_word(out: &mut [u8], at: usize, word: &[u8]) -> usize
     ensures { λ r. ⌜ (r, now (out .exit)) ≡ put (now (out .entry)) at (now (word .entry)) ⌝ }
 {
@@ -28,7 +39,7 @@ pub fn put_word(out: &mut [u8], at: usize, word: &[u8]) -> usize
 pub fn put_count(out: &mut [u8], at: usize, n: u64) -> usize
     ensures { λ r. ⌜ (r, now (out .exit)) ≡ put (now (out .entry)) at (decimalText 20 n) ⌝ }
 {
-    let mut text = [0u8; 20];
+    let mut text = [0u8; COUNT_DIGITS];
     let k = io::decimal(n, &mut text);
     put_word(out, at, &text[..k])
 }
@@ -63,12 +74,12 @@ pub fn bits_of(x: f64) -> u64
     }
 }
 
-fn hex_text(bits: u64) -> [u8; 16]
+fn hex_text(bits: u64) -> [u8; FLOAT_DIGITS]
     ensures { λ r. ⌜ r ≡ hexText 16 bits ⌝ }
 {
-    let mut text = [0u8; 16];
+    let mut text = [0u8; FLOAT_DIGITS];
     let mut rest = bits;
-    let mut i = 16usize;
+    let mut i = FLOAT_DIGITS;
     while i > 0 {
         i -= 1;
         text[i] = glyph(rest % 16);

@@ -5,7 +5,7 @@ ghost use mathlib.Core.Path.{_≡_};
 ghost use lib.Ieee.{isNan};
 ghost use lib.Ieee.Scale.{finite};
 ghost use Rattle.numbers.specs.Basic.{magnitude, larger, clamped, infinite};
-ghost use Rattle.numbers.specs.Sqrt.{root};
+ghost use Rattle.numbers.specs.Root.{root};
 
 #[no_mangle]
 pub extern "C" fn measured_sqrt(x: f64) -> f64

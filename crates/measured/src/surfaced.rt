@@ -1,9 +1,10 @@
 // Intersections and refractions, each told as the sum of its numbers, so that all of them are worked out.
 ghost use mathlib.Core.Path.{_≡_};
-ghost use Rattle.measured.specs.Sums.{evenOf, biconicOf, toroidOf, sumVec, sumLanding, sumHit, conicThen, evenThen};
+ghost use Rattle.measured.specs.Surfaced.{evenOf, biconicOf, toroidOf, sumVec, sumLanding, sumHit, conicThen};
+ghost use Rattle.measured.specs.Surfaced.{evenThen};
 ghost use Rattle.surfaces.specs.Types.{rayOf};
-ghost use Rattle.surfaces.specs.Told.{toldCrossing, toldDirection};
-ghost use Rattle.surfaces.specs.Conic.{conicSurface, meetAnswer};
+ghost use Rattle.surfaces.specs.Refusal.{toldCrossing, toldDirection};
+ghost use Rattle.surfaces.specs.Conic.{conicSurface, conicMeetAnswer};
 ghost use Rattle.surfaces.specs.Asphere.{evenCrossingAnswer};
 ghost use Rattle.surfaces.specs.Biconic.{biconicCrossingAnswer, toroidCrossingAnswer};
 use surfaces::BiconicSurface;
@@ -47,7 +48,7 @@ fn sum_of(x: Crossing) -> f64
     ensures { λ r. ⌜ r ≡ sumLanding (toldCrossing x) ⌝ }
 {
     match x {
-        Crossing::At(l) => {
+        Crossing::Given(l) => {
             let p = l.point;
             l.t + p.x + p.y + p.z
         }
@@ -59,7 +60,7 @@ fn total(d: Direction) -> f64
     ensures { λ r. ⌜ r ≡ sumVec (toldDirection d) ⌝ }
 {
     match d {
-        Direction::To(v) => v.x + v.y + v.z,
+        Direction::Given(v) => v.x + v.y + v.z,
         Direction::Refused(_) => 0.0,
     }
 }
@@ -77,10 +78,10 @@ pub extern "C" fn measured_conic(
     k: f64,
     semi: f64,
 ) -> f64
-    ensures { λ r. ⌜ r ≡ sumHit (meetAnswer (rayOf ox oy oz dx dy dz) (conicSurface vertex c k semi)) ⌝ }
+    ensures { λ r. ⌜ r ≡ sumHit (conicMeetAnswer (rayOf ox oy oz dx dy dz) (conicSurface vertex c k semi)) ⌝ }
 {
     match intersect_conic(ray_of(ox, oy, oz, dx, dy, dz), conic_of(vertex, c, k, semi)) {
-        Meet::Hit(h) => {
+        Meet::Given(h) => {
             let p = h.point;
             let n = h.normal;
             h.t + p.x + p.y + p.z + n.x + n.y + n.z
@@ -124,7 +125,8 @@ pub extern "C" fn measured_biconic(
     ky: f64,
     semi: f64,
 ) -> f64
-    ensures { λ r. ⌜ r ≡ sumLanding (biconicCrossingAnswer (biconicOf cx kx cy ky semi) (rayOf ox oy oz dx dy dz) vertex) ⌝ }
+    ensures { λ r. ⌜ r
+        ≡ sumLanding (biconicCrossingAnswer (biconicOf cx kx cy ky semi) (rayOf ox oy oz dx dy dz) vertex) ⌝ }
 {
     let s = BiconicSurface {
         cx,
@@ -175,7 +177,7 @@ pub extern "C" fn measured_conic_then(
 {
     let ray = ray_of(ox, oy, oz, dx, dy, dz);
     match intersect_conic(ray, conic_of(vertex, c, k, semi)) {
-        Meet::Hit(h) => {
+        Meet::Given(h) => {
             let d = ray.direction;
             let n = h.normal;
             total(snell_refract(d, n, n1, n2))
@@ -206,10 +208,10 @@ pub extern "C" fn measured_even_then(
     let ray = ray_of(ox, oy, oz, dx, dy, dz);
     let s = even_of(c, k, semi, a, b);
     match s.intersect_ray(ray, vertex) {
-        Crossing::At(l) => {
+        Crossing::Given(l) => {
             let p = l.point;
             match s.normal(p.x, p.y) {
-                Direction::To(n) => {
+                Direction::Given(n) => {
                     let d = ray.direction;
                     total(snell_refract(d, n, n1, n2))
                 }

@@ -1,4 +1,5 @@
--- Bounds that arithmetic keeps: operands between bounds, all plain, have a result between those of the bounds, since rounding keeps order. Assumes nothing.
+-- Bounds that arithmetic keeps: operands between bounds, all plain, have a result between those of the bounds, since
+-- rounding keeps order. Assumes nothing.
 use mathlib.Core.Path.{_≡_, refl, sym, _∙_}
 use Prim.Native.Nat.{ℕ, zero, suc, _+_, _-_, _*_, _≤_, _<_}
 use native.Mathlib.Nat.{le-of-lt, le-refl, lt-of-lt-of-le, mul-comm, mul-le-mul, mul-le-mul-right, mul-pos, mul-sub}
@@ -39,7 +40,8 @@ under overflow (plain n d) h = absurd h
 
 -- three fractions in order; the highest, and so each, is finite when rounded
 module _ (a b c d e f : ℕ) (z : Float) (B : 0 < b) (D : 0 < d) (F : 0 < f) where
-  pub rounds : a * d ≤ c * b → c * f ≤ e * d → lt (round binary64 false e f) z ≡ true → Bounded (round binary64 false a b) (round binary64 false c d) (round binary64 false e f)
+  pub rounds : a * d ≤ c * b → c * f ≤ e * d → lt (round binary64 false e f) z ≡ true →
+      Bounded (round binary64 false a b) (round binary64 false c d) (round binary64 false e f)
   rounds h k t =
       let l = round-mono binary64 a b c d B D h in
       let r = round-mono binary64 c d e f D F k in
@@ -57,22 +59,27 @@ mul-is : {x y : Float} → Plain x → Plain y → mul binary64 x y ≡ round bi
 unfolding mul
 mul-is (plain m e) (plain n d) = refl
 
-add-is : {x y : Float} → Plain x → Plain y → add binary64 x y ≡ round binary64 false (num x * den y + num y * den x) (den x * den y)
+add-is : {x y : Float} → Plain x → Plain y →
+    add binary64 x y ≡ round binary64 false (num x * den y + num y * den x) (den x * den y)
 unfolding add sum
 add-is (plain m e) (plain n d) = refl
 
-div-is : {x y : Float} → Plain x → Plain y → 0 < num y → div binary64 x y ≡ round binary64 false (num x * den y) (num y * den x)
+div-is : {x y : Float} → Plain x → Plain y → 0 < num y →
+    div binary64 x y ≡ round binary64 false (num x * den y) (num y * den x)
 unfolding div
 div-is (plain m e) (plain zero d) h = absurd (omega arith)
 div-is (plain m e) (plain (suc n) d) h = rw (eqb·suc-zero n)
 
-sub-is : {x y : Float} → Plain x → Plain y → lt x y ≡ false → sub binary64 x y ≡ round binary64 false (num x * den y - num y * den x) (den x * den y)
+sub-is : {x y : Float} → Plain x → Plain y → lt x y ≡ false →
+    sub binary64 x y ≡ round binary64 false (num x * den y - num y * den x) (den x * den y)
 unfolding sub sum lt
 sub-is (plain m e) (plain n d) h = rw h
 
-distance-is : {x y : Float} → Plain x → Plain y → lt x y ≡ true → magnitude (sub binary64 x y) ≡ round binary64 false (num y * den x - num x * den y) (den x * den y)
+distance-is : {x y : Float} → Plain x → Plain y → lt x y ≡ true →
+    magnitude (sub binary64 x y) ≡ round binary64 false (num y * den x - num x * den y) (den x * den y)
 unfolding sub sum lt
-distance-is (plain m e) (plain n d) h = rw h (round-magnitude true (n * up d * down e - m * up e * down d) (down e * down d))
+distance-is (plain m e) (plain n d) h =
+    rw h (round-magnitude true (n * up d * down e - m * up e * down d) (down e * down d))
 
 -- a square that is below a number, or at most a finite one, is finite
 square-is : {x : Float} → Plain x → Rounded (mul binary64 x x)
@@ -125,7 +132,8 @@ module _ {a x b c y d : Float} (p : Bounded a x b) (q : Bounded c y d) (z : Floa
       (sums (num x) (den x) (num b) (den b) (num y) (den y) (num d) (den d) (p .to) (q .to))
       (rw (add-is (p .high) (q .high)) at t))
 
-  pub quotient : 0 < num c → lt (div binary64 b c) z ≡ true → Bounded (div binary64 a d) (div binary64 x y) (div binary64 b c)
+  pub quotient : 0 < num c → lt (div binary64 b c) z ≡ true →
+      Bounded (div binary64 a d) (div binary64 x y) (div binary64 b c)
   quotient C t =
       let Y = grows c y (q .from) C in
       let D = grows y d (q .to) Y in
@@ -137,7 +145,8 @@ module _ {a x b c y d : Float} (p : Bounded a x b) (q : Bounded c y d) (z : Floa
 
 module _ {x c y d : Float} (p : Plain x) (q : Bounded c y d) (z : Float) where
   -- what is left of x
-  pub rest : lt d x ≡ true → lt (sub binary64 x c) z ≡ true → Bounded (sub binary64 x d) (sub binary64 x y) (sub binary64 x c)
+  pub rest : lt d x ≡ true → lt (sub binary64 x c) z ≡ true →
+      Bounded (sub binary64 x d) (sub binary64 x y) (sub binary64 x c)
   rest h t =
       let D = le-of-lt (below (q .high) p h) in
       let Y = chain y d x (q .to) D in
@@ -148,11 +157,15 @@ module _ {x c y d : Float} (p : Plain x) (q : Bounded c y d) (z : Float) where
       (before (num x) (den x) (num c) (den c) (num y) (den y) (q .from))
       (rw C at t))
 
-  smaller : (i j k l : ℕ) → 0 < j → 0 < l → i * l ≤ k * j → lt (round binary64 false k l) z ≡ true → lt (round binary64 false i j) z ≡ true
-  smaller i j k l J L h t = let r = rounds i j i j k l z J J L (le-refl (i * j)) h t in at-most-below z (r .self) (r .high) (r .to) t
+  smaller : (i j k l : ℕ) → 0 < j → 0 < l → i * l ≤ k * j → lt (round binary64 false k l) z ≡ true →
+      lt (round binary64 false i j) z ≡ true
+  smaller i j k l J L h t =
+      let r = rounds i j i j k l z J J L (le-refl (i * j)) h t in
+      at-most-below z (r .self) (r .high) (r .to) t
 
   -- y is nearer to x than z, since both bounds are
-  pub near : lt (sub binary64 x c) z ≡ true → lt (sub binary64 d x) z ≡ true → lt (magnitude (sub binary64 x y)) z ≡ true
+  pub near : lt (sub binary64 x c) z ≡ true → lt (sub binary64 d x) z ≡ true →
+      lt (magnitude (sub binary64 x y)) z ≡ true
   near h k = go (lt x y) refl
     where
       go : (b : Bool) → lt x y ≡ b → lt (magnitude (sub binary64 x y)) z ≡ true

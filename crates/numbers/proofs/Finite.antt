@@ -1,4 +1,5 @@
--- What shows that a number above zero is finite: infinity is below nothing, and neither is what it gives. Assumes nothing.
+-- What shows that a number above zero is finite: infinity is below nothing, and neither is what it gives.
+-- Assumes nothing.
 use mathlib.Core.Path.{_≡_, refl, sym, _∙_}
 use mathlib.Core.Bool.{Bool, true, false, cond, false≢true}
 use lib.Dec.{T, eqb}

@@ -1,8 +1,11 @@
--- Laws that several proofs use, and the theorems on the square root (`Nearest`).
+-- Laws that several proofs use, and the theorems on the square root (`Nearest`). What is `pub` is lent to the crates
+-- above.
 mod Roots
 mod Patterns
 mod Scale
 pub mod Cases
+pub mod Choice
+pub mod Lists
 pub mod Plain
 pub mod Signs
 pub mod Finite

@@ -1,4 +1,5 @@
--- Arithmetic has a mirror image: operands with other signs have results with other signs, and are as far apart. Assumes nothing.
+-- Arithmetic has a mirror image: operands with other signs have results with other signs, and are as far apart.
+-- Assumes nothing.
 use mathlib.Core.Path.{_≡_, refl, sym, _∙_, ap}
 use Prim.Native.Nat.{ℕ, zero, suc, _-_, _*_, _^_, _<_}
 use native.Mathlib.Omega.{arith}
@@ -26,7 +27,8 @@ pub data Rounded : Float → Type 0 where
 abbrev Signed : Float → Float → Type 0
 Signed x y = Rounded x × (y ≡ neg x)
 
-odd-signed : (b : Bool) (q k : ℕ) → Signed (cond b (odd 54 false q k 1074) (inf false)) (cond b (odd 54 true q k 1074) (inf true))
+odd-signed : (b : Bool) (q k : ℕ) →
+    Signed (cond b (odd 54 false q k 1074) (inf false)) (cond b (odd 54 true q k 1074) (inf true))
 unfolding neg odd
 odd-signed true zero k = (number (plain _ _), refl)
 odd-signed true (suc q) k = (number (plain _ _), refl)
@@ -65,11 +67,14 @@ unfolding div neg
 div-neg (plain m e) (plain zero d) h = absurd (omega arith)
 div-neg (plain m e) (plain (suc n) d) h = rw (eqb·suc-zero n) (round-neg (m * up e * down d) (suc n * up d * down e))
 
-swapped : (b s : Bool) (i j k : ℕ) → magnitude (cond b (round binary64 false i k) (round binary64 s j k)) ≡ magnitude (cond b (round binary64 true i k) (round binary64 false j k))
+swapped : (b s : Bool) (i j k : ℕ) →
+    magnitude (cond b (round binary64 false i k) (round binary64 s j k))
+    ≡ magnitude (cond b (round binary64 true i k) (round binary64 false j k))
 swapped true s i j k = round-magnitude false i k ∙ sym (round-magnitude true i k)
 swapped false s i j k = round-magnitude s j k ∙ sym (round-magnitude false j k)
 
-pub sub-neg : {x y : Float} → Plain x → Plain y → magnitude (sub binary64 (neg x) (neg y)) ≡ magnitude (sub binary64 x y)
+pub sub-neg : {x y : Float} → Plain x → Plain y →
+    magnitude (sub binary64 (neg x) (neg y)) ≡ magnitude (sub binary64 x y)
 unfolding sub sum neg
 sub-neg (plain m e) (plain n d) =
     let a = m * up e * down d in

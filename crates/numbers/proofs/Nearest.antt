@@ -1,8 +1,11 @@
--- What `root` says, proved: `floor-is` of `Roots.antt`, and here that `units` is exact (`units-exact`), that no binary64 lies nearer to √x than `root x` (`none-nearer`), that no tie arises (`no-tie`), that only one value is nearest (`only-one`) and how near to x the square of `root x` is (`root-squared`). Assumes nothing.
+-- What `root` says, proved: `floor-is` of `Roots.antt`, and here that `units` is exact (`units-exact`), that no
+-- binary64 lies nearer to √x than `root x` (`none-nearer`), that no tie arises (`no-tie`), that only one value is
+-- nearest (`only-one`) and how near to x the square of `root x` is (`root-squared`). Assumes nothing.
 use mathlib.Core.Path.{_≡_, refl, sym, ap, _∙_, subst}
 use mathlib.Core.Logic.{_⊎_, inl, inr, ⊎-elim}
 use Prim.Native.Nat.{ℕ, zero, suc, _+_, _-_, _*_, _/_, _%_, _^_, _≤_, _<_}
-use native.Mathlib.Nat.{add-comm, le-of-lt, ne-of-lt, lt-of-not-le, lt-of-lt-of-le, mul-le-mul, mul-le-mul-right, mul-lt-mul-of-pos-right, mul-pos, mul-one, zero-mul, not-le-of-lt}
+use native.Mathlib.Nat.{add-comm, le-of-lt, ne-of-lt, lt-of-not-le, lt-of-lt-of-le, mul-le-mul, mul-le-mul-right}
+use native.Mathlib.Nat.{mul-lt-mul-of-pos-right, mul-pos, mul-one, zero-mul, not-le-of-lt}
 use native.Mathlib.Decide.{decLe}
 use native.Mathlib.Omega.{arith}
 use mathlib.Core.Bool.{true, false, _&&_}
@@ -15,7 +18,8 @@ use lib.Ieee.Fits.{and-l, and-r}
 use lib.Ieee.Positive.{positive-finite, positive-of-value}
 use lib.Ieee.Exact.{HasValue, odd-sign}
 use Rattle.numbers.specs.Basic.{negative}
-use Rattle.numbers.specs.Sqrt.{units, root, Number, AboveZero, rootUnits, twiceRoot², twiceMidpoint², UnitsExact, NoneNearer, NoTie, OnlyOne}
+use Rattle.numbers.specs.Root.{units, root, Number, AboveZero, rootUnits, twiceRoot², twiceMidpoint², UnitsExact}
+use Rattle.numbers.specs.Root.{NoneNearer, NoTie, OnlyOne}
 use Rattle.numbers.specs.Parts.{Near, patternUnits}
 use Rattle.numbers.proofs.Patterns.{pattern}
 use Rattle.numbers.proofs.Roots.{before, nearest-of, long, short}
@@ -37,10 +41,13 @@ shift : (m a b c : ℕ) → a * b ≡ c → m * a * b ≡ m * c
 shift m a b c e = omega (arith, ap (λ (y : ℕ). m * y) e)
 
 place : (m : ℕ) (e : ℤ) → down e ≤ 2 ^ 1074 → (j : ℕ) × (m * up e * 2 ^ 1074 ≡ m * 2 ^ j * down e)
-place m (pos a) h = (a + 1074, shift m (2 ^ a) (2 ^ 1074) (2 ^ (a + 1074)) (sym (pow-add 2 a 1074)) ∙ sym (mul-one (m * 2 ^ (a + 1074))))
+place m (pos a) h =
+    let j = a + 1074 in
+    (j, shift m (2 ^ a) (2 ^ 1074) (2 ^ j) (sym (pow-add 2 a 1074)) ∙ sym (mul-one (m * 2 ^ j)))
 place m (negsuc a) h =
     let l : suc a ≤ 1074 = back (suc a) 1074 h in
-    (1074 - suc a, regroup m (2 ^ 1074) (2 ^ (1074 - suc a)) (2 ^ suc a) (join (1074 - suc a) (suc a) 1074 (omega arith)))
+    let j = 1074 - suc a in
+    (j, regroup m (2 ^ 1074) (2 ^ j) (2 ^ suc a) (join j (suc a) 1074 (omega arith)))
 
 pub split : (x : Float) → Number x → (m : ℕ) × (j : ℕ) × (m < 2 ^ 53) × HasValue x (negative x) (m * 2 ^ j) (2 ^ 1074)
 unfolding fits negative
@@ -74,7 +81,9 @@ gap o k m j h l = go (decLe k j)
         next t = omega arith
 
     go : Dec (k ≤ j) → (m * 2 ^ j ≤ o * 2 ^ k) ⊎ ((o + 1) * 2 ^ k ≤ m * 2 ^ j)
-    go (yes g) = far (m * 2 ^ (j - k)) (shift m (2 ^ (j - k)) (2 ^ k) (2 ^ j) (sym (join (j - k) k j (omega arith)))) (decLe (m * 2 ^ (j - k)) o)
+    go (yes g) =
+        let w = m * 2 ^ (j - k) in
+        far w (shift m (2 ^ (j - k)) (2 ^ k) (2 ^ j) (sym (join (j - k) k j (omega arith)))) (decLe w o)
     go (no g) =
         let t : suc j ≤ k = lt-of-not-le g in
         let a : 2 ^ 52 * 2 ^ suc j ≤ o * 2 ^ k = mul-le-mul h (pow-mono t) in
@@ -98,7 +107,8 @@ abbrev Close : ℕ → ℕ → Type 0
 Close s n = (s * 2 ^ 52 ≤ n * 2 ^ 52 + s) × (n * 2 ^ 52 ≤ s * 2 ^ 52 + s)
 
 close : (q n u : ℕ) → Near n q → 2 ^ 52 ≤ q → Close (q * u * (q * u)) (n * (u * u))
-close q n u (a, b) l = omega (arith, mul-le-mul-right (u * u) a, mul-le-mul-right (u * u) b, mul-le-mul-right (q * (u * u)) l)
+close q n u (a, b) l =
+    omega (arith, mul-le-mul-right (u * u) a, mul-le-mul-right (u * u) b, mul-le-mul-right (q * (u * u)) l)
 
 -- `Nearest` with no tie, and how near the root's square is
 record Nearer (x r : Float) : Type 0 where
@@ -108,7 +118,8 @@ record Nearer (x r : Float) : Type 0 where
   from-above : (y : Float) → Number y → units r < units y → twiceRoot² x < twiceMidpoint² y r
 
 -- r is q * 2 ^ k units, and q is nearest to the root of n squares of 2 ^ k
-module _ (x r : Float) (n q k : ℕ) (h : Near n q) (lo : 2 ^ 104 ≤ n) (l : 2 ^ 52 ≤ q) (e : units x * 2 ^ 1074 ≡ n * 2 ^ (2 * k)) (v : units r ≡ q * 2 ^ k) where
+module _ (x r : Float) (n q k : ℕ) (h : Near n q) (lo : 2 ^ 104 ≤ n) (l : 2 ^ 52 ≤ q)
+    (e : units x * 2 ^ 1074 ≡ n * 2 ^ (2 * k)) (v : units r ≡ q * 2 ^ k) where
   squares : units x * 2 ^ 1074 ≡ n * (2 ^ k * 2 ^ k)
   squares = e ∙ ap (λ (y : ℕ). n * y) (join k k (2 * k) (omega arith))
 
@@ -116,34 +127,36 @@ module _ (x r : Float) (n q k : ℕ) (h : Near n q) (lo : 2 ^ 104 ≤ n) (l : 2 
   beside o i y f = let p = split y f in rw (units-split y f) (gap o k (p .0) (p .1) i (p .2))
 
   above : (y : Float) → Number y → units r < units y → twiceRoot² x < twiceMidpoint² y r
-  above y f d = ⊎-elim
-      (λ z. absurd (omega arith))
-      (λ z. over (units y + units r) (2 * q + 1) (2 ^ k) n (units x * 2 ^ 1074) (pow-pos k) squares (omega arith) (omega arith))
-      (beside q l y f)
+  above y f d =
+      let o = over (units y + units r) (2 * q + 1) (2 ^ k) n (units x * 2 ^ 1074) (pow-pos k) squares in
+      ⊎-elim (λ z. absurd (omega arith)) (λ z. o (omega arith) (omega arith)) (beside q l y f)
 
   -- where √n lies below q: o is the number before q
-  below-q : (o : ℕ) → q ≡ o + 1 → n < q * q → (y : Float) → Number y → units y < units r → twiceMidpoint² y r < twiceRoot² x
+  below-q : (o : ℕ) → q ≡ o + 1 → n < q * q → (y : Float) → Number y → units y < units r →
+      twiceMidpoint² y r < twiceRoot² x
   below-q o i b y f d =
       let s = before q o i in
       let w : q * 2 ^ k ≡ (o + 1) * 2 ^ k = ap (λ (t : ℕ). t * 2 ^ k) i in
       let j : 2 ^ 52 ≤ o = lt-of-not-le (λ (z : o ≤ 2 ^ 52 - 1). let z² = mul-le-mul z z in omega arith) in
-      ⊎-elim
-      (λ z. under (units y + units r) (2 * o + 1) (2 ^ k) n (units x * 2 ^ 1074) (pow-pos k) squares (omega arith) (omega arith))
-      (λ z. absurd (omega arith))
-      (beside o j y f)
+      let t = under (units y + units r) (2 * o + 1) (2 ^ k) n (units x * 2 ^ 1074) (pow-pos k) squares in
+      ⊎-elim (λ z. t (omega arith) (omega arith)) (λ z. absurd (omega arith)) (beside o j y f)
 
   below : Dec (q * q ≤ n) → (y : Float) → Number y → units y < units r → twiceMidpoint² y r < twiceRoot² x
-  below (yes b) y f d = under-edge (units y + units r) (2 * q) (2 ^ k) n (units x * 2 ^ 1074) (pow-pos k) squares (omega arith) (omega arith)
+  below (yes b) y f d =
+      let N = units x * 2 ^ 1074 in
+      under-edge (units y + units r) (2 * q) (2 ^ k) n N (pow-pos k) squares (omega arith) (omega arith)
   below (no b) y f d = below-q (q - 1) (omega arith) (lt-of-not-le b) y f d
 
 -- ---- the theorems
 
 -- the number of n units whose digits are q
-number : (q k : ℕ) → k < 2046 → 2 ^ 52 ≤ q → q < 2 ^ 53 → (units (odd 53 false q k 1074) ≡ q * 2 ^ k) × AboveZero (odd 53 false q k 1074)
+number : (q k : ℕ) → k < 2046 → 2 ^ 52 ≤ q → q < 2 ^ 53 →
+    (units (odd 53 false q k 1074) ≡ q * 2 ^ k) × AboveZero (odd 53 false q k 1074)
 number q k l lo hi =
     let v = odd-sign 53 false q k 1074 in
     let f = rw (pattern k q l lo hi .1) at (ofBits-fits binary64 (k * 2 ^ 52 + q)) in
-    let g = positive-of-value (odd 53 false q k 1074) (q * 2 ^ k) (2 ^ 1074) v (mul-pos (lt-of-lt-of-le (pow-pos 52) lo) (pow-pos k)) in
+    let p = mul-pos (lt-of-lt-of-le (pow-pos 52) lo) (pow-pos k) in
+    let g = positive-of-value (odd 53 false q k 1074) (q * 2 ^ k) (2 ^ 1074) v p in
     (units-of (odd 53 false q k 1074) false (q * 2 ^ k) v, (f, g))
 
 scaled : (x : Float) (b m k : ℕ) → units x ≡ patternUnits b → Scale b m k → Nearer x (rootUnits (units x))
@@ -167,7 +180,8 @@ nearer nan (h, p) = absurd p
 nearer (inf s) (h, p) = absurd p
 nearer (fin true m e) (h, p) = absurd p
 nearer (fin false zero e) (h, p) = absurd p
-nearer (fin false (suc m) e) (h, p) = go (toBits binary64 x) (units-pattern x h (bits-lt m e h)) (bits-pos m e h) (bits-lt m e h)
+nearer (fin false (suc m) e) (h, p) =
+    go (toBits binary64 x) (units-pattern x h (bits-lt m e h)) (bits-pos m e h) (bits-lt m e h)
   where
     x : Float
     x = fin false (suc m) e
@@ -192,7 +206,10 @@ apart i j h = go (decLe (suc i) j)
 pub no-tie : NoTie
 no-tie x y h f d t =
     let n = nearer x h in
-    ⊎-elim (λ l. ne-of-lt (n .from-below y f l) t) (λ l. ne-of-lt (n .from-above y f l) (sym t)) (apart (units y) (units (root x)) d)
+    ⊎-elim
+    (λ l. ne-of-lt (n .from-below y f l) t)
+    (λ l. ne-of-lt (n .from-above y f l) (sym t))
+    (apart (units y) (units (root x)) d)
 
 pub root-squared : (x : Float) → AboveZero x → Close (units (root x) * units (root x)) (units x * 2 ^ 1074)
 root-squared x h = nearer x h .square
@@ -208,12 +225,16 @@ none-nearer x h =
     }
 
 -- a number above zero is its units
-same-bits : (m n : ℕ) (e d : ℤ) → units (fin false m e) ≡ units (fin false n d) → toBits binary64 (fin false m e) ≡ toBits binary64 (fin false n d)
+same-bits : (m n : ℕ) (e d : ℤ) → units (fin false m e) ≡ units (fin false n d) →
+    toBits binary64 (fin false m e) ≡ toBits binary64 (fin false n d)
 unfolding units toBits
 same-bits m n e d h = ap (λ (u : ℕ). 0 + (size u - 53) * 2 ^ 52 + u / 2 ^ (size u - 53)) h
 
 pub same-units : (x y : Float) → AboveZero x → AboveZero y → units x ≡ units y → x ≡ y
-same-units (fin false m e) (fin false n d) (h, p) (k, q) u = sym (ofBits-toBits binary64 (fin false m e) h) ∙ ap (ofBits binary64) (same-bits m n e d u) ∙ ofBits-toBits binary64 (fin false n d) k
+same-units (fin false m e) (fin false n d) (h, p) (k, q) u =
+    sym (ofBits-toBits binary64 (fin false m e) h)
+    ∙ ap (ofBits binary64) (same-bits m n e d u)
+    ∙ ofBits-toBits binary64 (fin false n d) k
 
 pub only-one : OnlyOne
 only-one x r h a = go (decLe (units r) (units s)) (decLe (units s) (units r))
@@ -236,5 +257,9 @@ only-one x r h a = go (decLe (units r) (units s)) (decLe (units s) (units r))
 
     go : Dec (units r ≤ units s) → Dec (units s ≤ units r) → r ≡ s
     go (yes i) (yes j) = same-units r s (a .above-zero) (b .above-zero) (omega arith)
-    go (yes i) (no j) = let l = lt-of-not-le j in absurd (not-le-of-lt (b .from-below r f l) (rw swapped (a .from-above s g l)))
-    go (no i) j = let l = lt-of-not-le i in absurd (not-le-of-lt (b .from-above r f l) (rw swapped (a .from-below s g l)))
+    go (yes i) (no j) =
+        let l = lt-of-not-le j in
+        absurd (not-le-of-lt (b .from-below r f l) (rw swapped (a .from-above s g l)))
+    go (no i) j =
+        let l = lt-of-not-le i in
+        absurd (not-le-of-lt (b .from-above r f l) (rw swapped (a .from-below s g l)))

@@ -32,13 +32,16 @@ module _ (b : ℕ) (h : b < 0x7ff0_0000_0000_0000) where
   pub normal : 2 ^ 52 ≤ b → ofBits binary64 b ≡ odd 53 false (2 ^ 52 + b % 2 ^ 52) (b / 2 ^ 52 - 1) 1074
   normal l =
       let e : b / 2 ^ 52 ≡ suc (b / 2 ^ 52 - 1) = omega arith in
-      plain ∙ ap (λ (x : ℕ). ofFields binary64 false x (b % 2 ^ 52)) e ∙ under-ones (b % 2 ^ 52) (b / 2 ^ 52 - 1) (omega arith)
+      plain
+      ∙ ap (λ (x : ℕ). ofFields binary64 false x (b % 2 ^ 52)) e
+      ∙ under-ones (b % 2 ^ 52) (b / 2 ^ 52 - 1) (omega arith)
 
   pub subnormal : b < 2 ^ 52 → ofBits binary64 b ≡ odd 53 false b 0 1074
   subnormal l = plain ∙ rw (div-eq-of-lt {n = b} {m = 2 ^ 52} l, mod-eq-of-lt {n = b} {m = 2 ^ 52} l) (at-zero b)
 
 -- the pattern of q * 2 ^ (K - 1074), for a q of 53 digits
-pub pattern : (K q : ℕ) → K < 2046 → 2 ^ 52 ≤ q → q < 2 ^ 53 → T (not (nanBits binary64 (K * 2 ^ 52 + q))) × (ofBits binary64 (K * 2 ^ 52 + q) ≡ odd 53 false q K 1074)
+pub pattern : (K q : ℕ) → K < 2046 → 2 ^ 52 ≤ q → q < 2 ^ 53 →
+    T (not (nanBits binary64 (K * 2 ^ 52 + q))) × (ofBits binary64 (K * 2 ^ 52 + q) ≡ odd 53 false q K 1074)
 pattern K q h lo hi =
     let b = K * 2 ^ 52 + q in
     let b-lt : b < 0x7ff0_0000_0000_0000 = omega arith in

@@ -45,23 +45,25 @@ pub not-below : {x y : Float} → Plain x → Plain y → AtMost y x → lt x y 
 unfolding lt
 not-below (plain m e) (plain n d) h = le-ltb (m * up e * down d) (n * up d * down e) h
 
-either : (a b : ℕ) (s t : Bool) → (T s → a < b) → (T t → a ≡ b) → T (s || (t && true)) → a ≤ b
-either a b true t f g h = le-of-lt (f tt)
-either a b false true f g h = le-of-eq (g tt)
+le-of-either : (a b : ℕ) (s t : Bool) → (T s → a < b) → (T t → a ≡ b) → T (s || (t && true)) → a ≤ b
+le-of-either a b true t f g h = le-of-lt (f tt)
+le-of-either a b false true f g h = le-of-eq (g tt)
 
 pub of-le : {x y : Float} → Plain x → Plain y → T (le x y) → AtMost x y
 unfolding le
 of-le (plain m e) (plain n d) h =
     let a = m * up e * down d in
     let b = n * up d * down e in
-    either a b (ltb a b) (eqb a b) (ltb→lt a b) (eqb→eq a b) h
+    le-of-either a b (ltb a b) (eqb a b) (ltb→lt a b) (eqb→eq a b) h
 
 pub clash : {x y : Float} → Plain x → Plain y → lt x y ≡ true → T (le y x) → ⊥
 clash p q h k = not-le-of-lt (below p q h) (of-le q p k)
 
 pub below-at-most : {x y z : Float} → Plain x → Plain y → Plain z → lt x y ≡ true → AtMost y z → lt x z ≡ true
 unfolding lt
-below-at-most {x} {y} {z} (plain m e) q (plain l c) h k = lt-ltb (m * up e * down c) (l * up c * down e) (lt-of-not-le (λ (g : AtMost z x). not-le-of-lt (below (plain m e) q h) (chain y z x k g)))
+below-at-most {x} {y} {z} (plain m e) q (plain l c) h k =
+    lt-ltb (m * up e * down c) (l * up c * down e)
+    (lt-of-not-le (λ (g : AtMost z x). not-le-of-lt (below (plain m e) q h) (chain y z x k g)))
 
 pub at-most-below : {x y : Float} (z : Float) → Plain x → Plain y → AtMost x y → lt y z ≡ true → lt x z ≡ true
 unfolding lt
@@ -70,7 +72,8 @@ at-most-below (inf s) (plain m e) (plain n d) h k = k
 at-most-below (fin true l c) (plain m e) (plain n d) h k = k
 at-most-below {x} {y} (fin false l c) (plain m e) (plain n d) h k =
     let z = fin false l c in
-    lt-ltb (m * up e * down c) (l * up c * down e) (lt-of-not-le (λ (g : AtMost z x). not-le-of-lt (below (plain n d) (plain l c) k) (chain z x y g h)))
+    lt-ltb (m * up e * down c) (l * up c * down e)
+    (lt-of-not-le (λ (g : AtMost z x). not-le-of-lt (below (plain n d) (plain l c) k) (chain z x y g h)))
 
 -- ---- those above zero
 

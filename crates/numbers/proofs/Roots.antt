@@ -1,7 +1,9 @@
 -- Roots of whole numbers: what `floorRoot` and `rounded` are, and how long a root is. Assumes nothing.
 use mathlib.Core.Path.{_≡_, _∙_}
-use Prim.Native.Nat.{ℕ, zero, suc, _+_, _-_, _*_, _/_, _^_, _≤_, _<_, compare, Ordering·lt, Ordering·gt, compare·zero-suc, compare·suc-zero, compare·suc-suc}
-use native.Mathlib.Nat.{le-antisymm, le-of-suc-le-suc, not-suc-le-zero, lt-of-not-le, lt-of-lt-of-le, mul-le-mul, mul-div-cancel, pow-le-pow-left, mul-lt-mul-of-pos-right}
+use Prim.Native.Nat.{ℕ, zero, suc, _+_, _-_, _*_, _/_, _^_, _≤_, _<_, compare, Ordering·lt, Ordering·gt}
+use Prim.Native.Nat.{compare·zero-suc, compare·suc-zero, compare·suc-suc}
+use native.Mathlib.Nat.{le-antisymm, le-of-suc-le-suc, not-suc-le-zero, lt-of-not-le, lt-of-lt-of-le, mul-le-mul}
+use native.Mathlib.Nat.{mul-div-cancel, pow-le-pow-left, mul-lt-mul-of-pos-right}
 use native.Mathlib.Decide.{decLe}
 use native.Mathlib.Omega.{arith}
 use mathlib.Core.Bool.{Bool, true, false, not}
@@ -10,7 +12,7 @@ use lib.Pow.{pow-pos}
 use lib.Ieee.{nearest, size}
 use lib.Ieee.Digits.{size-lt}
 use Rattle.numbers.specs.Arithmetic.{if_then_else_}
-use Rattle.numbers.specs.Sqrt.{rootBelow, floorRoot, rounded, FloorRoot}
+use Rattle.numbers.specs.Root.{rootBelow, floorRoot, rounded, FloorRoot}
 use Rattle.numbers.specs.Parts.{Near}
 
 abbrev pub Floor : ℕ → ℕ → Type 0
@@ -24,7 +26,8 @@ below-is (suc d) n h = go (leb (s * s) n) (leb→le (s * s) n) (nleb→lt (s * s
     s : ℕ
     s = 2 * rootBelow d (n / 4) + 1
 
-    go : (b : Bool) → (T b → s * s ≤ n) → (T (not b) → n < s * s) → Floor (n / 4) (rootBelow d (n / 4)) → Floor n (if b then s else (2 * rootBelow d (n / 4)))
+    go : (b : Bool) → (T b → s * s ≤ n) → (T (not b) → n < s * s) → Floor (n / 4) (rootBelow d (n / 4)) →
+        Floor n (if b then s else (2 * rootBelow d (n / 4)))
     go true y f h = let l = y tt in omega arith
     go false y f h = let l = f tt in omega arith
 
@@ -55,9 +58,12 @@ compare-gt (suc a) (suc b) h = compare·suc-suc a b ∙ compare-gt a b (le-of-su
 pub before : (q r : ℕ) → q ≡ r + 1 → q * q ≡ r * r + 2 * r + 1
 before q r e = rw e (omega arith)
 
--- The whole number nearest to √n is what `rounded` says: n lies on one side of q * q, and on the inner side of a midpoint.
+-- The whole number nearest to √n is what `rounded` says: n lies on one side of q * q, and on the inner side of a
+-- midpoint.
 module _ (n q k : ℕ) (h : Near n q) where
-  at-floor : (r : ℕ) → Floor n r → rounded (n * 2 ^ (2 * k)) k ≡ nearest r (compare (4 * (n * 2 ^ (2 * k))) ((2 * r + 1) * (2 * r + 1) * 2 ^ (2 * k)))
+  at-floor : (r : ℕ) → Floor n r →
+      rounded (n * 2 ^ (2 * k)) k
+      ≡ nearest r (compare (4 * (n * 2 ^ (2 * k))) ((2 * r + 1) * (2 * r + 1) * 2 ^ (2 * k)))
   unfolding rounded
   at-floor r f = rw (mul-div-cancel n (pow-pos (2 * k)), floor-unique n (floorRoot n) r (floor-is n) f)
 
@@ -67,7 +73,8 @@ module _ (n q k : ℕ) (h : Near n q) where
       go : Dec (q * q ≤ n) → rounded (n * 2 ^ (2 * k)) k ≡ q
       go (yes l) =
           let g : 4 * n < (2 * q + 1) * (2 * q + 1) = omega arith in
-          let g′ : 4 * (n * 2 ^ (2 * k)) < (2 * q + 1) * (2 * q + 1) * 2 ^ (2 * k) = omega (arith, mul-lt-mul-of-pos-right g (pow-pos (2 * k))) in
+          let g′ : 4 * (n * 2 ^ (2 * k)) < (2 * q + 1) * (2 * q + 1) * 2 ^ (2 * k) =
+          omega (arith, mul-lt-mul-of-pos-right g (pow-pos (2 * k))) in
           at-floor q (l, omega arith) ∙ rw compare-lt
       go (no l) =
           let f = lt-of-not-le l in
@@ -75,7 +82,8 @@ module _ (n q k : ℕ) (h : Near n q) where
           let p : q ≡ r + 1 = omega arith in
           let s = before q r p in
           let g : (2 * r + 1) * (2 * r + 1) < 4 * n = omega arith in
-          let g′ : (2 * r + 1) * (2 * r + 1) * 2 ^ (2 * k) < 4 * (n * 2 ^ (2 * k)) = omega (arith, mul-lt-mul-of-pos-right g (pow-pos (2 * k))) in
+          let g′ : (2 * r + 1) * (2 * r + 1) * 2 ^ (2 * k) < 4 * (n * 2 ^ (2 * k)) =
+          omega (arith, mul-lt-mul-of-pos-right g (pow-pos (2 * k))) in
           at-floor r (omega arith, omega arith) ∙ rw compare-gt (omega arith)
 
 -- Every n above 0 has such a q: its floor or the next.

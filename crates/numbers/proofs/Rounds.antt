@@ -11,7 +11,7 @@ use lib.Ieee.Fits.{down-pos, round-fits}
 use lib.Ieee.Positive.{positive-of-value, value-pos}
 use lib.Ieee.Scale.{round-same}
 use Rattle.numbers.specs.Basic.{negative}
-use Rattle.numbers.specs.Sqrt.{units, AboveZero}
+use Rattle.numbers.specs.Root.{units, AboveZero}
 use Rattle.numbers.proofs.Nearest.{split, units-split, units-exact, same-units}
 use Rattle.numbers.proofs.Plain.{some}
 use Rattle.numbers.proofs.Values.{units-lt, units-of}
@@ -27,16 +27,22 @@ exact (fin false (suc m) e) (h, p) =
     let x = fin false (suc m) e in
     let s = split x (h, tt) in
     let u = units-split x (h, tt) in
-    round-exact binary64 false (units x) (2 ^ 1074) (s .0) (s .1) (pow-pos 1074) (s .2) (rw u at (units-lt m e h)) (ap (λ (y : ℕ). y * 2 ^ 1074) u)
+    round-exact binary64 false (units x) (2 ^ 1074) (s .0) (s .1) (pow-pos 1074) (s .2)
+    (rw u at (units-lt m e h))
+    (ap (λ (y : ℕ). y * 2 ^ 1074) u)
 
 pub itself : (x : Float) → AboveZero x → round binary64 false (units x) (2 ^ 1074) ≡ x
 itself x h =
     let r = round binary64 false (units x) (2 ^ 1074) in
     let v = exact x h in
-    let p = positive-of-value r (units x) (2 ^ 1074) v (value-pos x (units x) (2 ^ 1074) (h .1) (pow-pos 1074) (value x h)) in
+    let u = value-pos x (units x) (2 ^ 1074) (h .1) (pow-pos 1074) (value x h) in
+    let p = positive-of-value r (units x) (2 ^ 1074) v u in
     same-units r x (round-fits binary64 false (units x) (2 ^ 1074), p) h (units-of r false (units x) v)
 
-pub own : (m : ℕ) (e : ℤ) → T (fits binary64 (fin false (suc m) e)) → round binary64 false (suc m * up e) (down e) ≡ fin false (suc m) e
+pub own : (m : ℕ) (e : ℤ) → T (fits binary64 (fin false (suc m) e)) →
+    round binary64 false (suc m * up e) (down e) ≡ fin false (suc m) e
 own m e h =
     let x = fin false (suc m) e in
-    round-same binary64 false (suc m * up e) (down e) (units x) (2 ^ 1074) (down-pos e) (pow-pos 1074) (value x (h, some m) .1) ∙ itself x (h, some m)
+    let v = value x (h, some m) .1 in
+    round-same binary64 false (suc m * up e) (down e) (units x) (2 ^ 1074) (down-pos e) (pow-pos 1074) v
+    ∙ itself x (h, some m)

@@ -1,14 +1,15 @@
 -- The root of n units, where n * 2 ^ 1074 is m * 2 ^ 52 times an even power of two. Assumes nothing.
 use mathlib.Core.Path.{_≡_, ap, _∙_}
 use Prim.Native.Nat.{ℕ, zero, suc, _+_, _-_, _*_, _/_, _%_, _^_, _≤_, _<_}
-use native.Mathlib.Nat.{le-trans, lt-of-lt-of-le, lt-of-not-le, lt-irrefl, mul-le-mul-left, mul-le-mul-right, mul-lt-mul-of-pos-right, mul-add}
+use native.Mathlib.Nat.{le-trans, lt-of-lt-of-le, lt-of-not-le, lt-irrefl, mul-le-mul-left, mul-le-mul-right}
+use native.Mathlib.Nat.{mul-lt-mul-of-pos-right, mul-add}
 use native.Mathlib.Omega.{arith}
 use mathlib.Core.Bool.{false, not}
 use lib.Dec.{T}
 use lib.Pow.{pow-add, pow-pos, pow-mono}
 use lib.Ieee.{binary64, size, odd, ofBits, nanBits}
 use lib.Ieee.Digits.{size-lt, size-le}
-use Rattle.numbers.specs.Sqrt.{rounded, rootUnits}
+use Rattle.numbers.specs.Root.{rounded, rootUnits}
 use Rattle.numbers.specs.Parts.{Near, patternUnits}
 use Rattle.numbers.proofs.Roots.{near-rounded, long, short}
 use Rattle.numbers.proofs.Patterns.{pattern}
@@ -20,10 +21,13 @@ module _ (m k : ℕ) (lo : 2 ^ 52 ≤ m) (hi : m < 2 ^ 54) where
       let a : 2 ^ (104 + 2 * k) ≤ N = rw pow-add (mul-le-mul-right (2 ^ (2 * k)) (omega arith)) in
       let b : N < 2 ^ (106 + 2 * k) = rw pow-add (mul-lt-mul-of-pos-right (omega arith) (pow-pos (2 * k))) in
       let few : size N ≤ 106 + 2 * k = size-le N (106 + 2 * k) b in
-      let many : 104 + 2 * k < size N = lt-of-not-le (λ (g : size N ≤ 104 + 2 * k). lt-irrefl N (lt-of-lt-of-le (size-lt N) (le-trans (pow-mono g) a))) in
+      let many : 104 + 2 * k < size N =
+      lt-of-not-le (λ (g : size N ≤ 104 + 2 * k).
+      lt-irrefl N (lt-of-lt-of-le (size-lt N) (le-trans (pow-mono g) a))) in
       omega arith
 
-  root-is : (n q : ℕ) → n * 2 ^ 1074 ≡ m * 2 ^ 52 * 2 ^ (2 * k) → rounded (m * 2 ^ 52 * 2 ^ (2 * k)) k ≡ q → odd 53 false q k 1074 ≡ rootUnits n
+  root-is : (n q : ℕ) → n * 2 ^ 1074 ≡ m * 2 ^ 52 * 2 ^ (2 * k) → rounded (m * 2 ^ 52 * 2 ^ (2 * k)) k ≡ q →
+      odd 53 false q k 1074 ≡ rootUnits n
   unfolding rootUnits
   root-is n q e r = rw (e, dropped, r)
 
@@ -51,7 +55,8 @@ product n m v u a c e = let t = ap (λ (x : ℕ). x * (a * c)) e in omega arith
 pub even : (n m p : ℕ) → n * 2 ^ 52 ≡ m * 2 ^ p → n * 2 ^ 1074 ≡ m * (p % 2 + 1) * 2 ^ 52 * 2 ^ (2 * (p / 2 + 485))
 even n m p e =
     let s : 2 ^ (2 * (p / 2 + 485)) ≡ 2 ^ (2 * (p / 2)) * 2 ^ 970 = rw mul-add (pow-add 2 (2 * (p / 2)) 970) in
-    rw s (product n m (p % 2 + 1) (2 ^ (2 * (p / 2))) (2 ^ 52) (2 ^ 970) (e ∙ ap (λ (x : ℕ). m * x) (power p (p % 2) (p / 2) (omega arith) (omega arith))))
+    let q = power p (p % 2) (p / 2) (omega arith) (omega arith) in
+    rw s (product n m (p % 2 + 1) (2 ^ (2 * (p / 2))) (2 ^ 52) (2 ^ 970) (e ∙ ap (λ (x : ℕ). m * x) q))
 
 pub at-most-twice : (m p : ℕ) → m * (p % 2) ≤ m * 1
 at-most-twice m p = mul-le-mul-left m (omega arith)
@@ -73,7 +78,12 @@ pub record Scale (b m k : ℕ) : Type 0 where
 pub scale : {b d p : ℕ} → Digits b d p → Scale b (d * (p % 2 + 1)) (p / 2 + 485)
 scale {b} {d} {p} h =
     let t = at-most-twice d p in
-    record { low = omega arith; high = omega arith; exponent = omega arith; place = even (patternUnits b) d p (h .place) }
+    record {
+      low = omega arith;
+      high = omega arith;
+      exponent = omega arith;
+      place = even (patternUnits b) d p (h .place);
+    }
 
 -- a normal number's pattern, whose exponent's field is e + 1
 pub normal-digits : (b e : ℕ) → b / 2 ^ 52 ≡ e + 1 → e < 2046 → Digits b (b - e * 2 ^ 52) (e + 52)

@@ -1,8 +1,10 @@
--- The units of a binary64 above zero, from its bit pattern, and its digits, moved up to where a normal number's stand. Assumes nothing.
+-- The units of a binary64 above zero, from its bit pattern, and its digits, moved up to where a normal number's stand.
+-- Assumes nothing.
 use mathlib.Core.Path.{_≡_, sym, ap, _∙_, subst}
 use mathlib.Core.Logic.{inl, inr}
 use Prim.Native.Nat.{ℕ, suc, _+_, _-_, _*_, _/_, _%_, _^_, _≤_, _<_}
-use native.Mathlib.Nat.{eq-zero-or-pos, lt-of-not-le, mod-eq-of-lt, mul-div-cancel, mul-right-comm, mul-le-mul-right, mul-lt-mul-of-pos-right, div-lt-iff-lt-mul}
+use native.Mathlib.Nat.{eq-zero-or-pos, lt-of-not-le, mod-eq-of-lt, mul-div-cancel, mul-right-comm, mul-le-mul-right}
+use native.Mathlib.Nat.{mul-lt-mul-of-pos-right, div-lt-iff-lt-mul}
 use native.Mathlib.Decide.{decLe}
 use native.Mathlib.Omega.{arith}
 use mathlib.Core.Bool.{Bool, false, _&&_}
@@ -15,7 +17,7 @@ use lib.Ieee.Digits.{size-le}
 use lib.Ieee.Fits.{down-pos, and-r, kept-lt}
 use lib.Ieee.Exact.{HasValue, odd-sign}
 use lib.Ieee.Bits.{ofBits-toBits}
-use Rattle.numbers.specs.Sqrt.{units}
+use Rattle.numbers.specs.Root.{units}
 use Rattle.numbers.specs.Parts.{patternUnits}
 use Rattle.numbers.proofs.Patterns.{normal, subnormal}
 use Rattle.numbers.proofs.Scale.{Digits}
@@ -32,13 +34,21 @@ low-units b h = let z : b / 2 ^ 52 - 1 ≡ 0 = omega arith in rw z (omega arith)
 -- The units of a number whose pattern lies below infinity's.
 module _ (x : Float) (h : T (fits binary64 x)) where
   read : (q k : ℕ) → ofBits binary64 (toBits binary64 x) ≡ odd 53 false q k 1074 → units x ≡ q * 2 ^ k
-  read q k e = units-of x false (q * 2 ^ k) (subst (λ (y : Float). HasValue y false (q * 2 ^ k) (2 ^ 1074)) (sym e ∙ ofBits-toBits binary64 x h) (odd-sign 53 false q k 1074))
+  read q k e =
+      units-of x false (q * 2 ^ k)
+      (subst (λ (y : Float). HasValue y false (q * 2 ^ k) (2 ^ 1074))
+      (sym e ∙ ofBits-toBits binary64 x h)
+      (odd-sign 53 false q k 1074))
 
   pub units-pattern : toBits binary64 x < 0x7ff0_0000_0000_0000 → units x ≡ patternUnits (toBits binary64 x)
   units-pattern u = go (toBits binary64 x) u read (decLe (2 ^ 52) (toBits binary64 x))
     where
-      go : (b : ℕ) → b < 0x7ff0_0000_0000_0000 → ((q k : ℕ) → ofBits binary64 b ≡ odd 53 false q k 1074 → units x ≡ q * 2 ^ k) → Dec (2 ^ 52 ≤ b) → units x ≡ patternUnits b
-      go b u r (yes l) = let e : b - (b / 2 ^ 52 - 1) * 2 ^ 52 ≡ 2 ^ 52 + b % 2 ^ 52 = omega arith in rw e (r (2 ^ 52 + b % 2 ^ 52) (b / 2 ^ 52 - 1) (normal b u l))
+      go : (b : ℕ) → b < 0x7ff0_0000_0000_0000 →
+          ((q k : ℕ) → ofBits binary64 b ≡ odd 53 false q k 1074 → units x ≡ q * 2 ^ k) → Dec (2 ^ 52 ≤ b) →
+          units x ≡ patternUnits b
+      go b u r (yes l) =
+          let e : b - (b / 2 ^ 52 - 1) * 2 ^ 52 ≡ 2 ^ 52 + b % 2 ^ 52 = omega arith in
+          rw e (r (2 ^ 52 + b % 2 ^ 52) (b / 2 ^ 52 - 1) (normal b u l))
       go b u r (no l) = let t = lt-of-not-le l in rw (low-units b t) (r b 0 (subnormal b u t))
 
 -- The pattern of a number above zero is neither 0 nor as high as infinity's.
@@ -46,8 +56,11 @@ module _ (m : ℕ) (e : ℤ) (h : T (fits binary64 (fin false (suc m) e))) where
   pub units-lt : suc m * up e * 2 ^ 1074 / down e < 2 ^ 2098
   unfolding fits
   units-lt =
-      let c = ltb→lt (suc m * up e) (2 ^ 1024 * down e) (and-r (eqb (suc m % 2) 1 && ltb (suc m) (2 ^ 53) && leb (down e) (2 ^ 1074)) (ltb (suc m * up e) (2 ^ 1024 * down e)) h) in
-      div-lt-iff-lt-mul (down-pos e) .1 (rw (mul-right-comm (2 ^ 1024) (down e) (2 ^ 1074)) at (mul-lt-mul-of-pos-right c (pow-pos 1074)))
+      let others = eqb (suc m % 2) 1 && ltb (suc m) (2 ^ 53) && leb (down e) (2 ^ 1074) in
+      let last = ltb (suc m * up e) (2 ^ 1024 * down e) in
+      let c = ltb→lt (suc m * up e) (2 ^ 1024 * down e) (and-r others last h) in
+      let s = rw (mul-right-comm (2 ^ 1024) (down e) (2 ^ 1074)) at (mul-lt-mul-of-pos-right c (pow-pos 1074)) in
+      div-lt-iff-lt-mul (down-pos e) .1 s
 
   pub bits-lt : toBits binary64 (fin false (suc m) e) < 0x7ff0_0000_0000_0000
   unfolding toBits

@@ -1,7 +1,9 @@
--- The notation that the rules of all crates share: arithmetic and order of binary64 numbers, a choice by a test, and the numbers that
--- the sources write. Definitions only.
+-- The notation that the rules of all crates share: arithmetic and order of binary64 numbers, a choice by a test, a list
+-- that has a number, and the numbers that the sources write. Definitions only.
 use Prim.Native.Nat.{ℕ, _^_}
-use mathlib.Core.Bool.{Bool, true, false}
+use mathlib.Core.Bool.{Bool, true, false, _||_}
+use mathlib.Core.List.{List, [], _∷_}
+use lib.Dec.{eqb}
 use lib.Ieee.{Float, binary64, round, add, sub, mul, div, lt, le}
 
 infixl 65 _+₆₄_
@@ -34,6 +36,11 @@ a ≤₆₄ b = le a b
 abbrev pub if_then_else_ : {A : Type 0} → Bool → A → A → A
 if true then a else b = a
 if false then a else b = b
+
+-- whether a number is one of a list
+unfoldable pub oneOf : List ℕ → ℕ → Bool
+oneOf [] n = false
+oneOf (m ∷ l) n = eqb n m || oneOf l n
 
 -- the binary64 nearest to the decimal fraction n / 10 ^ k
 unfoldable pub decimal : ℕ → ℕ → Float

@@ -1,4 +1,5 @@
--- Absolute value, maximum, clamp and kinds of a binary64. Definitions only. (A NaN is `lib.Ieee`'s `isNan`, a finite number `lib.Ieee.Scale`'s `finite`.)
+-- Absolute value, maximum, clamp and kinds of a binary64. Definitions only. (A NaN is `lib.Ieee`'s `isNan`, a finite
+-- number `lib.Ieee.Scale`'s `finite`.)
 use mathlib.Core.Bool.{Bool, true, false}
 use lib.Ieee.{Float, nan, inf, fin, isNan}
 use Rattle.numbers.specs.Arithmetic.{if_then_else_, _<₆₄_, 0f, 1f}
@@ -14,7 +15,8 @@ negative nan = false
 negative (inf s) = s
 negative (fin s m e) = s
 
--- A NaN gives way to the other; of two that are equal, which differ at most as zeros do, the one with a minus sign gives way.
+-- A NaN gives way to the other; of two that are equal, which differ at most as zeros do, the one with a minus sign
+-- gives way.
 unfoldable pub larger : Float → Float → Float
 larger x y =
     if isNan x then y else

@@ -1,13 +1,15 @@
--- The rules at known values: one list, which one theorem covers. A row has a rule's value and what it should be, both by their bit patterns. Assumes nothing.
+-- The rules at known values: one list, which one theorem covers. A row has a rule's value and what it should be, both
+-- by their bit patterns. Assumes nothing.
 use mathlib.Core.Path.{_≡_, refl}
 use mathlib.Core.Bool.{Bool, false}
 use mathlib.Core.List.{List, [], _∷_}
 use Prim.Native.Nat.{ℕ}
 use lib.Ieee.{Float, nan, inf, binary64, ofBits, toBits, add, sub, mul, div, neg, lt, le, eq, isNan}
 use lib.Ieee.Scale.{finite}
-use Rattle.numbers.specs.Arithmetic.{_+₆₄_, _-₆₄_, _*₆₄_, _/₆₄_, _<₆₄_, _≤₆₄_, if_then_else_, decimal, 0f, ½, 1f, 1½, 2f, 4f, 1e-4, 1e-7, 1e-11, 1e-12, 1e-14, 1e-15, 1e-30}
+use Rattle.numbers.specs.Arithmetic.{_+₆₄_, _-₆₄_, _*₆₄_, _/₆₄_, _<₆₄_, _≤₆₄_, if_then_else_, decimal, 0f, ½, 1f}
+use Rattle.numbers.specs.Arithmetic.{1½, 2f, 4f, 1e-4, 1e-7, 1e-11, 1e-12, 1e-14, 1e-15, 1e-30}
 use Rattle.numbers.specs.Basic.{magnitude, negative, larger, clamped, infinite}
-use Rattle.numbers.specs.Sqrt.{root}
+use Rattle.numbers.specs.Root.{root}
 
 pub record Row : Type 0 where
   pub rule : ℕ
@@ -41,7 +43,8 @@ yes? t = if t then 1f else 0f
 
 unfoldable pub rows : List Row
 rows =
-    -- roots of 4, 2, the smallest number above zero, 3 times it, the largest; of -0, +infinity, -1 and NaN; of 1's neighbours below and above
+    -- roots of 4, 2, the smallest number above zero, 3 times it, the largest; of -0, +infinity, -1 and NaN; of 1's
+    -- neighbours below and above
     (root 4f is 0x4000_0000_0000_0000) ∷
     (root 2f is 0x3ff6_a09e_667f_3bcd) ∷
     (root (bits 1) is 0x1e60_0000_0000_0000) ∷

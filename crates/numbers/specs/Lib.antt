@@ -1,6 +1,6 @@
 -- What the promises of `numbers` cite, and the notation of every crate above it.
 pub mod Arithmetic
 pub mod Basic
-pub mod Sqrt
+pub mod Root
 pub mod Parts
 pub mod Known

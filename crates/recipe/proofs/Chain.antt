@@ -43,17 +43,12 @@ module _ (b : List ℕ) where
   place-first (stop e) = sym e
   place-first (link h e c) = refl
 
-  pub place-next : {at : ℕ} {l : List Item} → Chain b at l → (k : ℕ) → k < length l → itemAt l k .next ≡ placeOf l (length b) (suc k)
+  pub place-next : {at : ℕ} {l : List Item} → Chain b at l → (k : ℕ) → k < length l
+      → itemAt l k .next ≡ placeOf l (length b) (suc k)
   unfolding placeOf
   place-next (stop e) k h = absurd (not-suc-le-zero h)
   place-next (link h e c) zero k = sym (place-first c)
   place-next (link h e c) (suc k) m = place-next c k (omega arith)
-
-  pub place-le : {at : ℕ} {l : List Item} → Chain b at l → (k : ℕ) → placeOf l (length b) k ≤ length b
-  unfolding placeOf
-  place-le (stop e) k = omega arith
-  place-le (link h e c) zero = h
-  place-le (link h e c) (suc k) = place-le c k
 
   pub record-there : {at : ℕ} {l : List Item} → Chain b at l → (k : ℕ) → k < length l
       → recordAt b (placeOf l (length b) k) ≡ good (itemAt l k .optic) (itemAt l k .next)

@@ -12,7 +12,8 @@ use Rattle.recipe.specs.declared.record.Optic.{Optic}
 use Rattle.recipe.specs.declared.scan.Seen.{Seen}
 use Rattle.recipe.specs.declared.scan.Checked.{Checked}
 use Rattle.recipe.specs.Record.{Read, bad, good, recordAt}
-use Rattle.recipe.specs.Scan.{Item, Scan, refused, items, before, seenOf, scan, failed, note, notes, says}
+use Rattle.recipe.specs.Scan.{Item, Scan, refused, items, before, scan, failed, note, notes, says}
+use Rattle.recipe.specs.Parts.{seenOf}
 use Rattle.recipe.proofs.Records.{not-1, bad-number, good-inside}
 use Rattle.recipe.proofs.Scans.{scan-end, scan-full, scan-record}
 
@@ -33,8 +34,17 @@ module _ (b : List ℕ) (at : ℕ) (s : Seen) (e : s ≡ seenOf (recordAt b at))
       by : (r : Read) → recordAt b at ≡ r → Passed b at (s .next) (s .limit)
       by (bad n) q = absurd (not-1 (bad-number b at q) (sym (ap (λ (x : Seen). x .number) (rw q at e)) ∙ h))
       by (good o next) q =
-          let p = rw q at e in let i = good-inside b at q in
-          rw p (record { optic = o; reads = q; limit-is = refl; far = i .0; inside = i .1; few = limit-bounds (o .surface .kind) .1 })
+          let p = rw q at e in
+          let i = good-inside b at q in
+          rw p
+          (record {
+            optic = o;
+            reads = q;
+            limit-is = refl;
+            far = i .0;
+            inside = i .1;
+            few = limit-bounds (o .surface .kind) .1;
+          })
 
   pub seen-bad : s .number ≢ 1 → recordAt b at ≡ bad (s .number)
   unfolding seenOf
@@ -53,13 +63,16 @@ more : (most n : ℕ) → n < most → most - n ≡ suc (most - (n + 1))
 more most n h = omega arith
 
 abbrev pub noted : ℕ → ℕ → ℕ → ℕ → Checked
-noted count limits found limit = record { number = 1; place = 0; count = count; limits = limits; found = found; limit = limit }
+noted count limits found limit =
+    record { number = 1; place = 0; count = count; limits = limits; found = found; limit = limit }
 
 module _ (w n limits found limit here found' limit' : ℕ) (i : Item) (e : here ≡ limitOf (i .optic .surface .kind)) where
-  note-wanted : (n ≡ w) × (found' ≡ i .at) × (limit' ≡ here) → note w (noted n limits found limit) i ≡ noted (n + 1) (limits + here) found' limit'
+  note-wanted : (n ≡ w) × (found' ≡ i .at) × (limit' ≡ here)
+      → note w (noted n limits found limit) i ≡ noted (n + 1) (limits + here) found' limit'
   note-wanted t = rw (eq-eqb n w (t .0), t .1, t .2, e)
 
-  note-other : (n ≢ w) × (found' ≡ found) × (limit' ≡ limit) → note w (noted n limits found limit) i ≡ noted (n + 1) (limits + here) found' limit'
+  note-other : (n ≢ w) × (found' ≡ found) × (limit' ≡ limit)
+      → note w (noted n limits found limit) i ≡ noted (n + 1) (limits + here) found' limit'
   note-other t = rw (ne-eqb n w (t .0), t .1, t .2, e)
 
 -- a turn of the loop: n records are behind it
@@ -70,8 +83,12 @@ pub turn : (b : List ℕ) (w most n at limits found limit here found' limit' nex
     → o ≡ says w (noted (n + 1) (limits + here) found' limit') (scan b (most - (n + 1)) next)
 turn b w most n at limits found limit here found' limit' next o h k p came inv =
     let i : Item = record { at = at; next = next; optic = p .optic } in
-    let e = ⊎-elim (note-wanted w n limits found limit here found' limit' i (p .limit-is)) (note-other w n limits found limit here found' limit' i (p .limit-is)) came in
-    inv ∙ rw (more most n h, scan-record b (most - (n + 1)) at k, p .reads, ← e) (says-before w (noted n limits found limit) i (scan b (most - (n + 1)) next))
+    let wanted = note-wanted w n limits found limit here found' limit' i (p .limit-is) in
+    let other = note-other w n limits found limit here found' limit' i (p .limit-is) in
+    let rest = scan b (most - (n + 1)) next in
+    inv
+    ∙ rw (more most n h, scan-record b (most - (n + 1)) at k, p .reads, ← ⊎-elim wanted other came)
+    (says-before w (noted n limits found limit) i rest)
 
 -- its ways out
 module _ (b : List ℕ) (w most n at : ℕ) (c o : Checked) (inv : o ≡ says w c (scan b (most - n) at)) where

@@ -1,4 +1,4 @@
--- A record is read from 108 bytes at most, so that a scan of so many records reads only the first bytes. Assumes nothing.
+-- A record is read from 108 bytes at most, so that so many records are read from the first bytes. Assumes nothing.
 use Prim.Native.Nat.{ℕ, zero, suc, _+_, _*_, _/_, _%_, _≤_, _<_}
 use native.Mathlib.Omega.{arith}
 use mathlib.Core.Path.{_≡_, refl}
@@ -9,7 +9,8 @@ use lib.Seq.{getD-take, length-take-le}
 use lib.Dec.{leb}
 use borrow.Author.Tests.{le-leb}
 use Rattle.recipe.specs.Endian.{u16At, u64At, numberAt, numbersAt}
-use Rattle.recipe.specs.Record.{Read, bad, good, lengthAt, kindAt, slotAt, lengthFits, shapedAt, semiSlot, kindOf, coefficientCount, coefficientsAt, opticAt, recordAt}
+use Rattle.recipe.specs.Record.{Read, bad, good, lengthAt, kindAt, slotAt, lengthFits, shapedAt, semiSlot, kindOf}
+use Rattle.recipe.specs.Record.{coefficientCount, coefficientsAt, opticAt, recordAt}
 use Rattle.recipe.specs.Scan.{onRead, scan}
 use Rattle.recipe.specs.Length.{longest, RefusedAlike, TooLong}
 use Rattle.recipe.proofs.Shapes.{fits, shape}
@@ -24,7 +25,13 @@ module _ (b : List ℕ) (n : ℕ) where
 
   number-take : (at : ℕ) → at + 8 ≤ n → numberAt (take n b) at ≡ numberAt b at
   unfolding numberAt u64At
-  number-take at h = rw (u16-take at (omega arith), u16-take (at + 2) (omega arith), u16-take (at + 4) (omega arith), u16-take (at + 6) (omega arith))
+  number-take at h =
+      rw (
+        u16-take at (omega arith),
+        u16-take (at + 2) (omega arith),
+        u16-take (at + 4) (omega arith),
+        u16-take (at + 6) (omega arith),
+      )
 
   numbers-take : (at k : ℕ) → at + 8 * k ≤ n → numbersAt (take n b) at k ≡ numbersAt b at k
   unfolding numbersAt
@@ -37,13 +44,21 @@ module _ (b : List ℕ) (n : ℕ) where
 
   kind-take : (at kind : ℕ) → at + 52 ≤ n → kindOf kind (slotAt (take n b) at) ≡ kindOf kind (slotAt b at)
   unfolding kindOf
-  kind-take at kind h = rw (slot-take at 2 (omega arith), slot-take at 3 (omega arith), slot-take at 4 (omega arith), slot-take at 5 (omega arith))
+  kind-take at kind h =
+      rw (
+        slot-take at 2 (omega arith),
+        slot-take at 3 (omega arith),
+        slot-take at 4 (omega arith),
+        slot-take at 5 (omega arith),
+      )
 
   module _ (at : ℕ) (h : at + 108 ≤ n) (k : n ≤ length b) where
     -- a length that is too long is no kind's
     shaped-take : shapedAt (take n b) at ≡ shapedAt b at
     unfolding shapedAt
-    shaped-take = rw (u16-take at (omega arith), u16-take (at + 2) (omega arith), length-take-le n b k) (by (lengthFits (kindAt b at % 256) (lengthAt b at)) refl)
+    shaped-take =
+        rw (u16-take at (omega arith), u16-take (at + 2) (omega arith), length-take-le n b k)
+        (by (lengthFits (kindAt b at % 256) (lengthAt b at)) refl)
       where
         by : (t : Bool) → lengthFits (kindAt b at % 256) (lengthAt b at) ≡ t
             → (leb (at + 4) n && leb (at + 2 + lengthAt b at) n && leb (kindAt b at / 256) 1 && t)
@@ -90,14 +105,26 @@ module _ (b : List ℕ) (most : ℕ) (long : longest most < length b) where
   front-length : length front ≡ longest most + 1
   front-length = length-take-le (longest most + 1) b (omega arith)
 
-  front-record : (left at : ℕ) → at + 108 ≤ longest most → scan front (suc left) at ≡ onRead (recordAt b at) at (scan front left)
-  front-record left at h = rw (scan-record front left at (omega (arith, front-length)), record-take b (longest most + 1) at (omega arith) (omega arith))
+  front-record : (left at : ℕ) → at + 108 ≤ longest most
+      → scan front (suc left) at ≡ onRead (recordAt b at) at (scan front left)
+  front-record left at h =
+      rw (
+        scan-record front left at (omega (arith, front-length)),
+        record-take b (longest most + 1) at (omega arith) (omega arith),
+      )
 
   alike : (left at : ℕ) → at + longest left ≤ longest most → Alike left at
-  alike zero at h = record { number = 10; place = at; one = scan-full b at (omega arith); other = scan-full front at (omega (arith, front-length)); within = omega arith }
+  alike zero at h = record {
+    number = 10;
+    place = at;
+    one = scan-full b at (omega arith);
+    other = scan-full front at (omega (arith, front-length));
+    within = omega arith;
+  }
   alike (suc left) at h = by (recordAt b at) refl (alike left)
     where
-      by : (r : Read) → recordAt b at ≡ r → ((next : ℕ) → next + longest left ≤ longest most → Alike left next) → Alike (suc left) at
+      by : (r : Read) → recordAt b at ≡ r → ((next : ℕ) → next + longest left ≤ longest most → Alike left next)
+          → Alike (suc left) at
       by (bad n) e go = record {
         number = n;
         place = at;

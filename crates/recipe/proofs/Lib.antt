@@ -1,11 +1,11 @@
 -- Laws that several proofs use.
 pub mod Shapes
-pub mod Numbers
-pub mod Patterns
+mod Numbers
+mod Patterns
 pub mod Records
 pub mod Scans
 pub mod Chain
 pub mod Notes
-pub mod Checks
+mod Checks
 pub mod Length
 pub mod Sources

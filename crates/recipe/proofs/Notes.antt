@@ -13,7 +13,8 @@ use Rattle.recipe.specs.declared.scan.Checked.{Checked}
 use Rattle.recipe.specs.Scan.{Item, note, notes, itemAt, sumLimits}
 
 -- number and place stay what they were
-pub notes-answer : (w : ℕ) (c : Checked) (l : List Item) → (notes w c l .number ≡ c .number) × (notes w c l .place ≡ c .place)
+pub notes-answer : (w : ℕ) (c : Checked) (l : List Item)
+    → (notes w c l .number ≡ c .number) × (notes w c l .place ≡ c .place)
 unfolding notes
 notes-answer w c [] = (refl, refl)
 notes-answer w c (i ∷ l) = notes-answer w (note w c i) l
@@ -28,7 +29,8 @@ unfolding notes sumLimits
 notes-limits w c [] = sym (add-zero (c .limits))
 notes-limits w c (i ∷ l) = omega (arith, notes-limits w (note w c i) l)
 
-notes-kept : (w : ℕ) (c : Checked) (l : List Item) → w < c .count → (notes w c l .found ≡ c .found) × (notes w c l .limit ≡ c .limit)
+notes-kept : (w : ℕ) (c : Checked) (l : List Item) → w < c .count
+    → (notes w c l .found ≡ c .found) × (notes w c l .limit ≡ c .limit)
 unfolding notes
 notes-kept w c [] h = (refl, refl)
 notes-kept w c (i ∷ l) h =

@@ -14,10 +14,11 @@ use Rattle.numbers.specs.Arithmetic.{0f}
 use Rattle.surfaces.specs.Types.{everyFinite}
 use Rattle.recipe.specs.Endian.{numberAt, numbersAt}
 use Rattle.recipe.specs.Record.{coefficientsAt}
-use Rattle.surfaces.proofs.Choice.{both, goes-on, ends-there}
+use Rattle.numbers.proofs.Choice.{both, goes-on, ends-there}
 
 module _ (b : List ℕ) (at : ℕ) where
-  pub finite-turn : (n : ℕ) → 0 < n → not (finite (numberAt b at)) ≡ false → everyFinite (numbersAt b at n) ≡ everyFinite (numbersAt b (at + 8) (n - 1))
+  pub finite-turn : (n : ℕ) → 0 < n → not (finite (numberAt b at)) ≡ false
+      → everyFinite (numbersAt b at n) ≡ everyFinite (numbersAt b (at + 8) (n - 1))
   unfolding everyFinite numbersAt
   finite-turn zero h e = absurd (not-suc-le-zero h)
   finite-turn (suc n) h e = let p : suc n - 1 ≡ n = omega arith in rw p (goes-on (finite (numberAt b at)) _ e)
@@ -31,7 +32,8 @@ module _ (b : List ℕ) (at : ℕ) where
   unfolding everyFinite numbersAt
   finite-end n h = let e : n ≡ 0 = omega arith in rw e
 
-pub finite-at : (b : List ℕ) (at n i : ℕ) → i < n → everyFinite (numbersAt b at n) ≡ true → finite (numberAt b (at + 8 * i)) ≡ true
+pub finite-at : (b : List ℕ) (at n i : ℕ) → i < n → everyFinite (numbersAt b at n) ≡ true
+    → finite (numberAt b (at + 8 * i)) ≡ true
 unfolding everyFinite numbersAt
 finite-at b at zero i h e = absurd (not-suc-le-zero h)
 finite-at b at (suc n) zero h e = rw (add-zero at) (both (finite (numberAt b at)) _ e .0)
@@ -57,7 +59,9 @@ pub term-more : (b : List ℕ) (at i : ℕ) (l : List Float) → i < 8 → l ≡
 unfolding coefficientsAt
 term-more b at i l h e =
     let d : 8 - i ≡ suc (8 - (i + 1)) = omega arith in
-    ap (λ (k : List Float). set k i (numberAt b (at + 8 * i))) (e ∙ ap (λ (k : ℕ). numbersAt b at i ++ replicate k 0f) d)
-    ∙ set-at (numbersAt b at i) 0f (replicate (8 - (i + 1)) 0f) (numberAt b (at + 8 * i)) i (length-numbers b at i)
-    ∙ sym (append-snoc (numbersAt b at i) (numberAt b (at + 8 * i)) (replicate (8 - (i + 1)) 0f))
+    let x = numberAt b (at + 8 * i) in
+    let rest = replicate (8 - (i + 1)) 0f in
+    ap (λ (k : List Float). set k i x) (e ∙ ap (λ (k : ℕ). numbersAt b at i ++ replicate k 0f) d)
+    ∙ set-at (numbersAt b at i) 0f rest x i (length-numbers b at i)
+    ∙ sym (append-snoc (numbersAt b at i) x rest)
     ∙ rw (add-one, numbers-snoc)

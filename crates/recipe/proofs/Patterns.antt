@@ -19,9 +19,12 @@ pick-finite false z s v h = h
 fields-finite : (s : Bool) (x t : ℕ) → finite (ofFields binary64 s x t) ≡ not (eqb x 2047)
 unfolding ofFields
 fields-finite s zero t = odd-finite 53 s t 0 (low binary64)
-fields-finite s (suc x) t = pick-finite (eqb (suc x) 2047) (eqb t 0) s _ (odd-finite 53 s (hid binary64 + t) x (low binary64))
+fields-finite s (suc x) t =
+    pick-finite (eqb (suc x) 2047) (eqb t 0) s _ (odd-finite 53 s (hid binary64 + t) x (low binary64))
 
 -- those whose exponent's digits are not all ones
-pub finite-pattern : (n : ℕ) → finite (ofBits binary64 n) ≡ not (eqb (n % 0x8000_0000_0000_0000 / 0x10_0000_0000_0000) 2047)
+pub finite-pattern : (n : ℕ)
+    → finite (ofBits binary64 n) ≡ not (eqb (n % 0x8000_0000_0000_0000 / 0x10_0000_0000_0000) 2047)
 unfolding ofBits
-finite-pattern n = fields-finite (leb (top binary64) n) (n % 0x8000_0000_0000_0000 / 0x10_0000_0000_0000) (n % hid binary64)
+finite-pattern n =
+    fields-finite (leb (top binary64) n) (n % 0x8000_0000_0000_0000 / 0x10_0000_0000_0000) (n % hid binary64)

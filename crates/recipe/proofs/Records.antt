@@ -1,5 +1,6 @@
--- What a record that is read says of its bytes: a good one its shape, its numbers and its end, a bad one its number. Assumes nothing.
-use Prim.Native.Nat.{ℕ, _+_, _/_, _%_, _≤_, _<_}
+-- What a record that is read says of its bytes: a good one its shape, its numbers and its end, a bad one its number.
+-- Assumes nothing.
+use Prim.Native.Nat.{ℕ, _+_, _/_, _%_, _≤_}
 use native.Mathlib.Omega.{arith}
 use mathlib.Core.Path.{_≡_, refl}
 use mathlib.Core.Logic.{_≢_}
@@ -10,11 +11,12 @@ use lib.Dec.{eqb}
 use lib.Ieee.Scale.{finite}
 use Rattle.numbers.specs.Arithmetic.{_<₆₄_, _≤₆₄_, if_then_else_, 0f}
 use Rattle.surfaces.specs.Types.{everyFinite}
-use Rattle.surfaces.specs.Demand1.{oneOf}
-use Rattle.surfaces.proofs.Choice.{either}
+use Rattle.numbers.specs.Arithmetic.{oneOf}
+use Rattle.numbers.proofs.Choice.{either}
 use Rattle.recipe.specs.declared.record.Optic.{Optic}
 use Rattle.recipe.specs.Endian.{numbersAt}
-use Rattle.recipe.specs.Record.{Read, bad, good, lengthAt, kindAt, slotAt, shapedAt, semiSlot, opticAt, negativeSemi, recordAt, readAt}
+use Rattle.recipe.specs.Record.{Read, bad, good, lengthAt, kindAt, slotAt, shapedAt, semiSlot, opticAt}
+use Rattle.recipe.specs.Record.{negativeSemi, recordAt, readAt}
 use Rattle.recipe.proofs.Numbers.{finite-at}
 use Rattle.recipe.proofs.Shapes.{shape}
 
@@ -50,10 +52,12 @@ module _ (b : List ℕ) (at : ℕ) where
 
   accepted : {o : Optic} {next : ℕ} → recordAt b at ≡ good o next → Accepted b at o next
   unfolding recordAt
-  accepted {o} {next} h = by (shapedAt b at) refl (everyFinite (numbersAt b (at + 4) (lengthAt b at / 8))) refl (slotAt b at (semiSlot (kindAt b at % 256)) <₆₄ 0f) (slotAt b at 1 ≤₆₄ 0f) refl h
+  accepted {o} {next} h =
+      by (shapedAt b at) refl (everyFinite (numbersAt b (at + 4) (lengthAt b at / 8))) refl
+      (slotAt b at (semiSlot (kindAt b at % 256)) <₆₄ 0f) (slotAt b at 1 ≤₆₄ 0f) refl h
     where
-      by : (t : Bool) → shapedAt b at ≡ t → (u : Bool) → everyFinite (numbersAt b (at + 4) (lengthAt b at / 8)) ≡ u → (v w : Bool) → (slotAt b at 1 ≤₆₄ 0f) ≡ w
-          → judged t u v w ≡ good o next → Accepted b at o next
+      by : (t : Bool) → shapedAt b at ≡ t → (u : Bool) → everyFinite (numbersAt b (at + 4) (lengthAt b at / 8)) ≡ u
+          → (v w : Bool) → (slotAt b at 1 ≤₆₄ 0f) ≡ w → judged t u v w ≡ good o next → Accepted b at o next
       by false t u _ v w _ e = absurd (not-good e)
       by true t false _ v w _ e = absurd (not-good e)
       by true t true u true w _ e = absurd (not-good e)
@@ -62,7 +66,10 @@ module _ (b : List ℕ) (at : ℕ) where
 
   module _ {o : Optic} {next : ℕ} (h : recordAt b at ≡ good o next) where
     pub good-inside : (at + 44 ≤ next) × (next ≤ length b) × (next ≤ at + 108)
-    good-inside = let a = accepted h in let f = shape b at (a .shaped) refl refl in (omega arith, omega arith, omega arith)
+    good-inside =
+        let a = accepted h in
+        let f = shape b at (a .shaped) refl refl in
+        (omega arith, omega arith, omega arith)
 
     pub good-read : readAt b at ≡ record { number = 1; next = next; optic = o }
     unfolding readAt
@@ -71,7 +78,8 @@ module _ (b : List ℕ) (at : ℕ) where
     pub good-index : (finite (o .index) ≡ true) × ((o .index ≤₆₄ 0f) ≡ false)
     unfolding opticAt slotAt
     good-index =
-        let a = accepted h in let f = shape b at (a .shaped) refl refl in
+        let a = accepted h in
+        let f = shape b at (a .shaped) refl refl in
         rw (a .optic) (finite-at b (at + 4) (lengthAt b at / 8) 1 (omega arith) (a .numbers), a .index)
 
   judged-number : Numbered (recordAt b at)
@@ -79,7 +87,8 @@ module _ (b : List ℕ) (at : ℕ) where
   judged-number =
       either Numbered (not (shapedAt b at)) _ _ refl
       (either Numbered (not (everyFinite (numbersAt b (at + 4) (lengthAt b at / 8)))) _ _ refl
-      (either Numbered (slotAt b at (semiSlot (kindAt b at % 256)) <₆₄ 0f) _ _ (either Refuses (eqb (kindAt b at % 256) 1) _ _ refl refl)
+      (either Numbered (slotAt b at (semiSlot (kindAt b at % 256)) <₆₄ 0f) _ _
+      (either Refuses (eqb (kindAt b at % 256) 1) _ _ refl refl)
       (either Numbered (slotAt b at 1 ≤₆₄ 0f) _ _ refl tt)))
 
   pub bad-number : {n : ℕ} → recordAt b at ≡ bad n → Refuses n

@@ -8,7 +8,7 @@ use lib.ListN.{length}
 use lib.Dec.{ltb}
 use borrow.Author.Tests.{lt-ltb, le-ltb, ltb-true, ltb-false}
 use Rattle.numbers.specs.Arithmetic.{if_then_else_}
-use Rattle.surfaces.specs.Demand1.{oneOf}
+use Rattle.numbers.specs.Arithmetic.{oneOf}
 use Rattle.recipe.specs.declared.record.Optic.{Optic}
 use Rattle.recipe.specs.Record.{Read, bad, good, recordAt}
 use Rattle.recipe.specs.Scan.{Item, Scan, refused, items, before, onRead, scan, itemsIn}
@@ -18,9 +18,10 @@ pub data Scanned (b : List ℕ) : ℕ → ℕ → Scan → Type 0 where
   over : {left at : ℕ} → length b ≤ at → Scanned b left at (items [])
   full : {at : ℕ} → at < length b → Scanned b 0 at (refused 10 at)
   stopped : {left at n : ℕ} → at < length b → recordAt b at ≡ bad n → Scanned b (suc left) at (refused n at)
-  fails : {left at next n p : ℕ} {o : Optic} → at < length b → recordAt b at ≡ good o next → Scanned b left next (refused n p) → Scanned b (suc left) at (refused n p)
-  passes : {left at next : ℕ} {o : Optic} {l : List Item} → at < length b → recordAt b at ≡ good o next → Scanned b left next (items l)
-      → Scanned b (suc left) at (items (record { at = at; next = next; optic = o } ∷ l))
+  fails : {left at next n p : ℕ} {o : Optic} → at < length b → recordAt b at ≡ good o next
+      → Scanned b left next (refused n p) → Scanned b (suc left) at (refused n p)
+  passes : {left at next : ℕ} {o : Optic} {l : List Item} → at < length b → recordAt b at ≡ good o next
+      → Scanned b left next (items l) → Scanned b (suc left) at (items (record { at = at; next = next; optic = o } ∷ l))
 
 pub scanned : (b : List ℕ) (left at : ℕ) → Scanned b left at (scan b left at)
 unfolding scan
@@ -36,7 +37,8 @@ scanned b (suc left) at = by (ltb at (length b)) refl (recordAt b at) refl (scan
     rest h e (refused n p) s = fails h e s
     rest h e (items l) s = passes h e s
 
-    by : (t : Bool) → ltb at (length b) ≡ t → (r : Read) → recordAt b at ≡ r → ((next : ℕ) → Scanned b left next (scan b left next))
+    by : (t : Bool) → ltb at (length b) ≡ t → (r : Read) → recordAt b at ≡ r
+        → ((next : ℕ) → Scanned b left next (scan b left next))
         → Scanned b (suc left) at (if t then onRead r at (scan b left) else items [])
     by false t r e go = over (ltb-false at (length b) t)
     by true t (bad n) e go = stopped (ltb-true at (length b) t) e
@@ -86,6 +88,7 @@ pub scan-full : (b : List ℕ) (at : ℕ) → at < length b → scan b 0 at ≡ 
 unfolding scan
 scan-full b at h = rw (lt-ltb at (length b) h)
 
-pub scan-record : (b : List ℕ) (left at : ℕ) → at < length b → scan b (suc left) at ≡ onRead (recordAt b at) at (scan b left)
+pub scan-record : (b : List ℕ) (left at : ℕ) → at < length b
+    → scan b (suc left) at ≡ onRead (recordAt b at) at (scan b left)
 unfolding scan
 scan-record b left at h = rw (lt-ltb at (length b) h)

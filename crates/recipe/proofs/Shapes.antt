@@ -1,4 +1,5 @@
--- What the shape of a record tells of its places: all that is read of it lies within it, and it within the recipe. Assumes nothing.
+-- What the shape of a record tells of its places: all that is read of it lies within it, and it within the recipe.
+-- Assumes nothing.
 use Prim.Native.Nat.{ℕ, _+_, _-_, _*_, _/_, _%_, _≤_}
 use mathlib.Core.Path.{_≡_, refl}
 use mathlib.Core.Bool.{Bool, true, false, _&&_}
@@ -8,7 +9,7 @@ use lib.ListN.{length}
 use lib.Dec.{eqb, leb, lit≤}
 use borrow.Author.Tests.{leb-true, leb-false, eqb-true, le-leb, lt-leb}
 use Rattle.numbers.specs.Arithmetic.{if_then_else_}
-use Rattle.surfaces.proofs.Choice.{either, both}
+use Rattle.numbers.proofs.Choice.{either, both}
 use Rattle.recipe.specs.Source.{sourceBytes, isSource}
 use Rattle.recipe.specs.Record.{lengthAt, kindAt, lengthFits, shapedAt, semiSlot, coefficientCount}
 
@@ -29,7 +30,8 @@ pub record Shape (n at kind len : ℕ) : Type 0 where
 -- every kind has four numbers before its semi-diameter, and a biconic has six
 pub semi-least : (kind : ℕ) → 4 ≤ semiSlot kind
 unfolding semiSlot
-semi-least kind = either (λ n. 4 ≤ n) (eqb kind 3) _ _ (lit≤ tt) (either (λ n. 4 ≤ n) (eqb kind 4) _ _ (lit≤ tt) (lit≤ tt))
+semi-least kind =
+    either (λ n. 4 ≤ n) (eqb kind 3) _ _ (lit≤ tt) (either (λ n. 4 ≤ n) (eqb kind 4) _ _ (lit≤ tt) (lit≤ tt))
 
 pub semi-biconic : (kind : ℕ) → kind ≡ 3 → semiSlot kind ≡ 6
 unfolding semiSlot
@@ -43,10 +45,14 @@ room-test n at k h = by (leb (at + 2 + k) n) refl
     by true e = le-leb (2 + k) (n - at) (omega (arith, leb-true (at + 2 + k) n e))
     by false e = lt-leb (2 + k) (n - at) (omega (arith, leb-false (at + 2 + k) n e))
 
+-- so many coefficients fit a length
+abbrev Room : ℕ → ℕ → Type 0
+Room len n = (n ≤ 8) × (42 + 8 * n ≤ len)
+
 fitting : (kind len : ℕ) → 42 ≤ len → len ≤ 106 → len % 8 ≡ 2 → 10 + 8 * semiSlot kind ≤ len → Fitting kind len
 unfolding coefficientCount
 fitting kind len l m e s =
-    let n = either (λ n. (n ≤ 8) × (42 + 8 * n ≤ len)) (eqb kind 2) (len / 8 - 5) 0 (omega arith, omega arith) (omega arith, l) in
+    let n = either (Room len) (eqb kind 2) (len / 8 - 5) 0 (omega arith, omega arith) (omega arith, l) in
     record { least = l; most = m; numbers = omega arith; semi = s; count = n .0; terms = n .1 }
 
 pub fits : (kind len : ℕ) → lengthFits kind len ≡ true → Fitting kind len
@@ -54,18 +60,24 @@ unfolding lengthFits semiSlot
 fits kind len = by (eqb kind 1) refl (eqb kind 2) refl (eqb kind 3) refl
   where
     by : (t : Bool) → eqb kind 1 ≡ t → (u : Bool) → eqb kind 2 ≡ u → (v : Bool) → eqb kind 3 ≡ v
-        → (if t then eqb len 42 else if u then leb 42 len && leb len 106 && eqb (len % 8) 2 else if v then eqb len 58 else eqb kind 4 && eqb len 50) ≡ true
+        → (if t then eqb len 42 else
+        if u then leb 42 len && leb len 106 && eqb (len % 8) 2 else
+        if v then eqb len 58 else eqb kind 4 && eqb len 50) ≡ true
         → Fitting kind len
     by true t u _ v _ h = rw (eqb-true kind 1 t, eqb-true len 42 h) (fitting 1 42 (lit≤ tt) (lit≤ tt) refl (lit≤ tt))
     by false _ true u v _ h =
-        let p = both (leb 42 len && leb len 106) _ h in let q = both (leb 42 len) _ (p .0) in let l = leb-true 42 len (q .0) in
+        let p = both (leb 42 len && leb len 106) _ h in
+        let q = both (leb 42 len) _ (p .0) in
+        let l = leb-true 42 len (q .0) in
         rw (eqb-true kind 2 u) (fitting 2 len l (leb-true len 106 (q .1)) (eqb-true (len % 8) 2 (p .1)) l)
-    by false _ false _ true v h = rw (eqb-true kind 3 v, eqb-true len 58 h) (fitting 3 58 (lit≤ tt) (lit≤ tt) refl (lit≤ tt))
+    by false _ false _ true v h =
+        rw (eqb-true kind 3 v, eqb-true len 58 h) (fitting 3 58 (lit≤ tt) (lit≤ tt) refl (lit≤ tt))
     by false _ false _ false _ h =
         let p = both (eqb kind 4) _ h in
         rw (eqb-true kind 4 (p .0), eqb-true len 50 (p .1)) (fitting 4 50 (lit≤ tt) (lit≤ tt) refl (lit≤ tt))
 
-pub shape : (b : List ℕ) (at : ℕ) {len kind : ℕ} → shapedAt b at ≡ true → len ≡ lengthAt b at → kind ≡ kindAt b at → Shape (length b) at (kind % 256) len
+pub shape : (b : List ℕ) (at : ℕ) {len kind : ℕ} → shapedAt b at ≡ true → len ≡ lengthAt b at → kind ≡ kindAt b at
+    → Shape (length b) at (kind % 256) len
 unfolding shapedAt
 shape b at h l k =
     let p = both _ (lengthFits (kindAt b at % 256) (lengthAt b at)) h in
@@ -79,4 +91,6 @@ shape b at h l k =
 
 pub source-room : (b : List ℕ) → isSource b ≡ true → sourceBytes ≤ length b
 unfolding isSource
-source-room b h = leb-true sourceBytes (length b) (both (leb sourceBytes (length b)) _ (both _ (eqb (kindAt b 0) 0) h .0) .0)
+source-room b h =
+    let p = both _ (eqb (kindAt b 0) 0) h in
+    leb-true sourceBytes (length b) (both (leb sourceBytes (length b)) _ (p .0) .0)

@@ -1,4 +1,5 @@
--- A recipe that is longer than all its records could be is refused, and its first bytes alone say why and where. Definitions only.
+-- A recipe that is longer than all its records could be is refused, and its first bytes alone say why and where.
+-- Definitions only.
 use Prim.Native.Nat.{ℕ, _+_, _*_, _≤_, _<_}
 use mathlib.Core.Path.{_≡_}
 use mathlib.Core.List.{List}
@@ -18,4 +19,5 @@ pub record RefusedAlike (x y : Scan) (last : ℕ) : Type 0 where
   pub within : place ≤ last
 
 abbrev pub TooLong : Type 0
-TooLong = (b : List ℕ) (most : ℕ) → longest most < length b → RefusedAlike (scan b most 0) (scan (take (longest most + 1) b) most 0) (longest most)
+TooLong = (b : List ℕ) (most : ℕ) → longest most < length b
+    → RefusedAlike (scan b most 0) (scan (take (longest most + 1) b) most 0) (longest most)

@@ -3,3 +3,4 @@ pub mod Record
 pub mod Scan
 pub mod Length
 pub mod Source
+pub mod Parts

@@ -11,7 +11,7 @@ use Rattle.surfaces.specs.declared.types.Coefficients.{Coefficients}
 use Rattle.surfaces.specs.declared.surface.Kind.{Kind}
 use Rattle.surfaces.specs.declared.surface.Kind.the-variants.{Conic, Even, Biconic, Toroid}
 use Rattle.recipe.specs.declared.record.Optic.{Optic}
-use Rattle.recipe.specs.declared.record.Record.{Record}
+use Rattle.recipe.specs.declared.record.ReadRecord.{ReadRecord}
 use Rattle.recipe.specs.Endian.{u16At, numberAt, numbersAt}
 
 -- how many bytes follow a record's length, and its kind
@@ -97,9 +97,13 @@ recordAt b at =
 
 -- what a reader hands out where there is no shape
 abbrev pub noOptic : Optic
-noOptic = record { surface = record { vertex = 0f; semi = 0f; kind = Conic 0f 0f; coefficients = noCoefficients }; mirror = false; index = 0f }
+noOptic = record {
+  surface = record { vertex = 0f; semi = 0f; kind = Conic 0f 0f; coefficients = noCoefficients };
+  mirror = false;
+  index = 0f;
+}
 
-unfoldable pub readAt : List ℕ → ℕ → Record
+unfoldable pub readAt : List ℕ → ℕ → ReadRecord
 readAt b at =
     if shapedAt b at then record { number = 1; next = at + 2 + lengthAt b at; optic = opticAt b at } else
     record { number = 10; next = 0; optic = noOptic }

@@ -1,4 +1,4 @@
--- A whole recipe: the list of its surfaces, or its first refusal and where; and what a check of it says. Definitions only.
+-- A whole recipe: the list of its surfaces, or its first refusal and where; what a check says of it. Definitions only.
 use Prim.Native.Nat.{ℕ, zero, suc, _+_}
 use mathlib.Core.List.{List, [], _∷_}
 use lib.ListN.{length, getD}
@@ -6,14 +6,8 @@ use lib.Dec.{eqb, ltb}
 use Rattle.numbers.specs.Arithmetic.{if_then_else_}
 use Rattle.surfaces.specs.Surface.{limitOf}
 use Rattle.recipe.specs.declared.record.Optic.{Optic}
-use Rattle.recipe.specs.declared.scan.Seen.{Seen}
 use Rattle.recipe.specs.declared.scan.Checked.{Checked}
 use Rattle.recipe.specs.Record.{Read, bad, good, recordAt, noOptic}
-
--- what a look at one record says
-unfoldable pub seenOf : Read → Seen
-seenOf (bad n) = record { number = n; next = 0; limit = 0 }
-seenOf (good o next) = record { number = 1; next = next; limit = limitOf (o .surface .kind) }
 
 -- a surface, the place of its first byte, and the next one's
 pub record Item : Type 0 where

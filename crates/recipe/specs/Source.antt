@@ -5,8 +5,9 @@ use mathlib.Core.Bool.{Bool, _&&_}
 use lib.ListN.{length}
 use lib.Dec.{eqb, leb}
 use Rattle.numbers.specs.Arithmetic.{if_then_else_, 0f}
-use Rattle.surfaces.specs.Types.{vec, zeros}
+use Rattle.surfaces.specs.Types.{vec, noRay}
 use Rattle.surfaces.specs.declared.types.Vec3.{Vec3}
+use Rattle.surfaces.specs.declared.types.Ray.{Ray}
 use Rattle.recipe.specs.declared.source.Source.{Source}
 use Rattle.recipe.specs.Record.{lengthAt, kindAt, slotAt}
 
@@ -22,5 +23,6 @@ vectorAt b i = vec (slotAt b 0 i) (slotAt b 0 (i + 1)) (slotAt b 0 (i + 2))
 
 unfoldable pub sourceOf : List ℕ → Source
 sourceOf b =
-    if isSource b then record { number = 1; ray = record { origin = vectorAt b 0; direction = vectorAt b 3 }; index = slotAt b 0 6 } else
-    record { number = 10; ray = record { origin = zeros; direction = zeros }; index = 0f }
+    let ray : Ray = record { origin = vectorAt b 0; direction = vectorAt b 3 } in
+    if isSource b then record { number = 1; ray = ray; index = slotAt b 0 6 } else
+    record { number = 10; ray = noRay; index = 0f }

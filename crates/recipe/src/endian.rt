@@ -7,6 +7,9 @@ ghost use Rattle.surfaces.specs.Types.{everyFinite};
 ghost use Rattle.recipe.specs.Endian.{u16At, u64At, numberAt, numbersAt};
 use numbers::from_bits;
 
+// How many bytes a number takes.
+pub(crate) const NUMBER_BYTES: usize = 8;
+
 pub(crate) fn u16_at(s: &[u8], at: usize) -> usize
     requires { ⌜ at + 2 ≤ length (now s) ⌝ }
     ensures { λ r. ⌜ (r ≡ u16At (now (s .entry)) at) × (r < 65536) ⌝ }
@@ -51,7 +54,7 @@ pub(crate) fn numbers_finite(s: &[u8], at: usize, n: usize) -> bool
         if !finite_at(s, place) {
             return false;
         }
-        place += 8;
+        place += NUMBER_BYTES;
         left -= 1;
     }
     true

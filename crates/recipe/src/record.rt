@@ -3,12 +3,77 @@ ghost use mathlib.Core.Path.{_≡_};
 ghost use mathlib.Core.Bool.{true};
 ghost use lib.ListN.{length};
 ghost use Prim.Native.Nat.{_+_, _*_, _≤_};
-ghost use Rattle.recipe.specs.Record.{slotAt, lengthFits, shapedAt, semiSlot, kindOf, coefficientCount, coefficientsAt, opticAt, readAt, noOptic};
+ghost use Rattle.recipe.specs.Record.{slotAt, lengthFits, shapedAt, semiSlot, kindOf, coefficientCount};
+ghost use Rattle.recipe.specs.Record.{coefficientsAt, opticAt, readAt, noOptic};
+use crate::endian::NUMBER_BYTES;
 use crate::endian::number_at;
 use crate::endian::u16_at;
+use surfaces::ACCEPTED;
 use surfaces::Coefficients;
 use surfaces::Kind;
+use surfaces::MOST_COEFFICIENTS;
 use surfaces::Surface;
+use surfaces::no_coefficients;
+
+// The table's number for what is no record (SCOPE T1).
+pub const MALFORMED: u8 = 10;
+
+// A record is its length, which counts the bytes behind itself, then its kind, then numbers.
+pub(crate) const LENGTH_BYTES: usize = 2;
+
+const KIND_BYTES: usize = 2;
+
+pub(crate) const HEAD_BYTES: usize = LENGTH_BYTES + KIND_BYTES;
+
+pub const KIND_CONIC: usize = 1;
+
+pub const KIND_EVEN_ASPHERE: usize = 2;
+
+pub const KIND_BICONIC: usize = 3;
+
+pub const KIND_TOROID: usize = 4;
+
+// A mirror's kind is the surface's and this.
+pub const KIND_MIRROR: usize = 256;
+
+// Each kind's length, an even asphere's without coefficients.
+const LENGTH_CONIC: usize = 42;
+
+const LENGTH_EVEN_ASPHERE: usize = 42;
+
+const LENGTH_BICONIC: usize = 58;
+
+const LENGTH_TOROID: usize = 50;
+
+const LONGEST_EVEN_ASPHERE: usize = LENGTH_EVEN_ASPHERE + NUMBER_BYTES * MOST_COEFFICIENTS;
+
+// How many bytes the longest record takes.
+pub const LONGEST_RECORD: usize = LENGTH_BYTES + LONGEST_EVEN_ASPHERE;
+
+// The slots of its numbers: vertex z, the index after, two to four of the kind's own.
+const VERTEX: usize = 0;
+
+pub(crate) const INDEX: usize = 1;
+
+const FIRST: usize = 2;
+
+const SECOND: usize = 3;
+
+const THIRD: usize = 4;
+
+const FOURTH: usize = 5;
+
+// The semi-diameter is the last, and coefficients come behind it.
+const SEMI_CONIC: usize = LENGTH_CONIC / NUMBER_BYTES - 1;
+
+const SEMI_BICONIC: usize = LENGTH_BICONIC / NUMBER_BYTES - 1;
+
+const SEMI_TOROID: usize = LENGTH_TOROID / NUMBER_BYTES - 1;
+
+const COEFFICIENTS: usize = LENGTH_EVEN_ASPHERE / NUMBER_BYTES;
+
+// Where they begin, from the record's place on.
+const COEFFICIENTS_PLACE: usize = LENGTH_BYTES + LENGTH_EVEN_ASPHERE;
 
 // A surface, and the index behind it, which a mirror does not use.
 pub struct Optic {
@@ -18,7 +83,7 @@ pub struct Optic {
 }
 
 // 1, the next record's place and the surface, or 10.
-pub struct Record {
+pub struct ReadRecord {
     pub number: u8,
     pub next: usize,
     pub optic: Optic,
@@ -29,22 +94,24 @@ pub(crate) fn slot(s: &[u8], at: usize, i: usize) -> f64
     requires { ⌜ at + 12 + 8 * i ≤ length (now s) ⌝ }
     ensures { λ r. ⌜ r ≡ slotAt (now (s .entry)) at i ⌝ }
 {
-    number_at(s, at + 4 + 8 * i)
+    number_at(s, at + HEAD_BYTES + NUMBER_BYTES * i)
 }
 
 fn length_fits(kind: usize, len: usize) -> bool
     ensures { λ r. ⌜ r ≡ lengthFits kind len ⌝ }
 {
-    if kind == 1 {
-        return len == 42;
+    if kind == KIND_CONIC {
+        return len == LENGTH_CONIC;
     }
-    if kind == 2 {
-        return (42 <= len) & (len <= 106) & (len % 8 == 2);
+    if kind == KIND_EVEN_ASPHERE {
+        return (LENGTH_EVEN_ASPHERE <= len)
+            & (len <= LONGEST_EVEN_ASPHERE)
+            & (len % NUMBER_BYTES == KIND_BYTES);
     }
-    if kind == 3 {
-        return len == 58;
+    if kind == KIND_BICONIC {
+        return len == LENGTH_BICONIC;
     }
-    (kind == 4) & (len == 50)
+    (kind == KIND_TOROID) & (len == LENGTH_TOROID)
 }
 
 // Whether a record is whole, and its length one that its kind has.
@@ -55,57 +122,74 @@ pub(crate) fn is_shaped(s: &[u8], at: usize) -> bool
         return false;
     }
     let room = s.len() - at;
-    if room < 4 {
+    if room < HEAD_BYTES {
         return false;
     }
     let len = u16_at(s, at);
-    let kind = u16_at(s, at + 2);
-    (2 + len <= room) & (kind / 256 <= 1) & length_fits(kind % 256, len)
+    let kind = u16_at(s, at + LENGTH_BYTES);
+    (LENGTH_BYTES + len <= room) & (kind / KIND_MIRROR <= 1) & length_fits(kind % KIND_MIRROR, len)
 }
 
 pub(crate) fn semi_slot(kind: usize) -> usize
     ensures { λ r. ⌜ r ≡ semiSlot kind ⌝ }
 {
-    if kind == 3 {
-        return 6;
+    if kind == KIND_BICONIC {
+        return SEMI_BICONIC;
     }
-    if kind == 4 { 5 } else { 4 }
+    if kind == KIND_TOROID {
+        SEMI_TOROID
+    } else {
+        SEMI_CONIC
+    }
 }
 
 pub(crate) fn kind_at(s: &[u8], at: usize, kind: usize) -> Kind
     requires { ⌜ at + 12 + 8 * semiSlot kind ≤ length (now s) ⌝ }
     ensures { λ r. ⌜ r ≡ kindOf kind (slotAt (now (s .entry)) at) ⌝ }
 {
-    let a = slot(s, at, 2);
-    let b = slot(s, at, 3);
-    if kind == 1 {
-        return Kind::Conic(a, b);
+    let a = slot(s, at, FIRST);
+    let b = slot(s, at, SECOND);
+    if kind == KIND_CONIC {
+        return Kind::Conic { c: a, k: b };
     }
-    if kind == 2 {
-        return Kind::Even(a, b);
+    if kind == KIND_EVEN_ASPHERE {
+        return Kind::Even { c: a, k: b };
     }
-    let c = slot(s, at, 4);
-    if kind == 3 {
-        return Kind::Biconic(a, b, c, slot(s, at, 5));
+    let c = slot(s, at, THIRD);
+    if kind == KIND_BICONIC {
+        return Kind::Biconic {
+            cx: a,
+            kx: b,
+            cy: c,
+            ky: slot(s, at, FOURTH),
+        };
     }
-    Kind::Toroid(a, b, c)
+    Kind::Toroid {
+        rx: a,
+        cy: b,
+        ky: c,
+    }
 }
 
 fn coefficient_count(kind: usize, len: usize) -> usize
     requires { ⌜ 42 ≤ len ⌝ }
     ensures { λ r. ⌜ r ≡ coefficientCount kind len ⌝ }
 {
-    if kind == 2 { len / 8 - 5 } else { 0 }
+    if kind == KIND_EVEN_ASPHERE {
+        len / NUMBER_BYTES - COEFFICIENTS
+    } else {
+        0
+    }
 }
 
 fn coefficients_at(s: &[u8], at: usize, count: usize) -> Coefficients
     requires { ⌜ (count ≤ 8) × (at + 8 * count ≤ length (now s)) ⌝ }
     ensures { λ r. ⌜ r ≡ coefficientsAt (now (s .entry)) at count ⌝ }
 {
-    let mut values = [0.0f64; 8];
+    let mut values = [0.0f64; MOST_COEFFICIENTS];
     let mut i = 0usize;
     while i < count {
-        values[i] = number_at(s, at + 8 * i);
+        values[i] = number_at(s, at + NUMBER_BYTES * i);
         i += 1;
     }
     Coefficients { count, values }
@@ -116,18 +200,18 @@ fn optic_at(s: &[u8], at: usize) -> Optic
     ensures { λ r. ⌜ r ≡ opticAt (now (s .entry)) at ⌝ }
 {
     let len = u16_at(s, at);
-    let whole = u16_at(s, at + 2);
-    let kind = whole % 256;
+    let whole = u16_at(s, at + LENGTH_BYTES);
+    let kind = whole % KIND_MIRROR;
     let surface = Surface {
-        vertex: slot(s, at, 0),
+        vertex: slot(s, at, VERTEX),
         semi: slot(s, at, semi_slot(kind)),
         kind: kind_at(s, at, kind),
-        coefficients: coefficients_at(s, at + 44, coefficient_count(kind, len)),
+        coefficients: coefficients_at(s, at + COEFFICIENTS_PLACE, coefficient_count(kind, len)),
     };
     Optic {
         surface,
-        mirror: whole / 256 == 1,
-        index: slot(s, at, 1),
+        mirror: whole / KIND_MIRROR == 1,
+        index: slot(s, at, INDEX),
     }
 }
 
@@ -137,11 +221,8 @@ fn no_optic() -> Optic
     let surface = Surface {
         vertex: 0.0,
         semi: 0.0,
-        kind: Kind::Conic(0.0, 0.0),
-        coefficients: Coefficients {
-            count: 0,
-            values: [0.0; 8],
-        },
+        kind: Kind::Conic { c: 0.0, k: 0.0 },
+        coefficients: no_coefficients(),
     };
     Optic {
         surface,
@@ -151,19 +232,19 @@ fn no_optic() -> Optic
 }
 
 // The record at a place, by its shape alone: whether its numbers are good is for `check`.
-pub fn read_record(s: &[u8], at: usize) -> Record
+pub fn read_record(s: &[u8], at: usize) -> ReadRecord
     ensures { λ r. ⌜ r ≡ readAt (now (s .entry)) at ⌝ }
 {
     if is_shaped(s, at) {
         let len = u16_at(s, at);
-        return Record {
-            number: 1,
-            next: at + 2 + len,
+        return ReadRecord {
+            number: ACCEPTED,
+            next: at + LENGTH_BYTES + len,
             optic: optic_at(s, at),
         };
     }
-    Record {
-        number: 10,
+    ReadRecord {
+        number: MALFORMED,
         next: 0,
         optic: no_optic(),
     }

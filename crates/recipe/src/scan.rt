@@ -1,13 +1,25 @@
 // A recipe's records, checked from the first to the last.
 ghost use mathlib.Core.Path.{_≡_};
-ghost use Rattle.recipe.specs.Scan.{seenOf, checkOf, failed};
+ghost use Rattle.recipe.specs.Scan.{checkOf, failed};
 ghost use Rattle.recipe.specs.Record.{negativeSemi, recordAt};
+ghost use Rattle.recipe.specs.Parts.{seenOf};
+use crate::endian::NUMBER_BYTES;
 use crate::endian::numbers_finite;
 use crate::endian::u16_at;
+use crate::record::HEAD_BYTES;
+use crate::record::INDEX;
+use crate::record::KIND_CONIC;
+use crate::record::KIND_MIRROR;
+use crate::record::LENGTH_BYTES;
+use crate::record::MALFORMED;
 use crate::record::is_shaped;
 use crate::record::kind_at;
 use crate::record::semi_slot;
 use crate::record::slot;
+use surfaces::ACCEPTED;
+use surfaces::BAD_PARAMETER;
+use surfaces::NEGATIVE_SEMI_DIAMETER;
+use surfaces::SINGULAR;
 use surfaces::limit;
 
 // What a look at one record says: 1, the next record's place and the surface's limit, or a refusal.
@@ -43,29 +55,33 @@ fn unseen(number: u8) -> Seen
 fn negative_semi(kind: usize) -> u8
     ensures { λ n. ⌜ n ≡ negativeSemi kind ⌝ }
 {
-    if kind == 1 { 3 } else { 2 }
+    if kind == KIND_CONIC {
+        NEGATIVE_SEMI_DIAMETER
+    } else {
+        BAD_PARAMETER
+    }
 }
 
 fn look(s: &[u8], at: usize) -> Seen
     ensures { λ r. ⌜ r ≡ seenOf (recordAt (now (s .entry)) at) ⌝ }
 {
     if !is_shaped(s, at) {
-        return unseen(10);
+        return unseen(MALFORMED);
     }
     let len = u16_at(s, at);
-    let kind = u16_at(s, at + 2) % 256;
-    if !numbers_finite(s, at + 4, len / 8) {
-        return unseen(2);
+    let kind = u16_at(s, at + LENGTH_BYTES) % KIND_MIRROR;
+    if !numbers_finite(s, at + HEAD_BYTES, len / NUMBER_BYTES) {
+        return unseen(BAD_PARAMETER);
     }
     if slot(s, at, semi_slot(kind)) < 0.0 {
         return unseen(negative_semi(kind));
     }
-    if slot(s, at, 1) <= 0.0 {
-        return unseen(4);
+    if slot(s, at, INDEX) <= 0.0 {
+        return unseen(SINGULAR);
     }
     Seen {
-        number: 1,
-        next: at + 2 + len,
+        number: ACCEPTED,
+        next: at + LENGTH_BYTES + len,
         limit: limit(kind_at(s, at, kind)),
     }
 }
@@ -94,10 +110,10 @@ pub fn check(s: &[u8], most: usize, wanted: usize) -> Checked
     let mut limit = 0;
     while at < s.len() {
         if count >= most {
-            return failed(10, at);
+            return failed(MALFORMED, at);
         }
         let seen = look(s, at);
-        if seen.number != 1 {
+        if seen.number != ACCEPTED {
             return failed(seen.number, at);
         }
         if count == wanted {
@@ -109,7 +125,7 @@ pub fn check(s: &[u8], most: usize, wanted: usize) -> Checked
         at = seen.next;
     }
     Checked {
-        number: 1,
+        number: ACCEPTED,
         place: 0,
         count,
         limits,

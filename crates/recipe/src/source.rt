@@ -4,12 +4,27 @@ ghost use lib.ListN.{length};
 ghost use Prim.Native.Nat.{_+_, _*_, _≤_};
 ghost use Rattle.recipe.specs.Source.{isSource, vectorAt, sourceOf};
 use crate::endian::u16_at;
+use crate::record::LENGTH_BYTES;
+use crate::record::MALFORMED;
 use crate::record::slot;
+use surfaces::ACCEPTED;
 use surfaces::Ray;
 use surfaces::Vec3;
+use surfaces::no_ray;
+
+const KIND_SOURCE: usize = 0;
+
+const LENGTH_SOURCE: usize = 58;
 
 // How many bytes it takes.
-pub const SOURCE: usize = 60;
+pub const SOURCE_BYTES: usize = LENGTH_BYTES + LENGTH_SOURCE;
+
+// Its slots.
+const ORIGIN: usize = 0;
+
+const DIRECTION: usize = 3;
+
+const INDEX: usize = 6;
 
 // 1, the ray and the index that it starts in, or 10.
 pub struct Source {
@@ -21,10 +36,10 @@ pub struct Source {
 fn is_source(file: &[u8]) -> bool
     ensures { λ r. ⌜ r ≡ isSource (now (file .entry)) ⌝ }
 {
-    if file.len() < SOURCE {
+    if file.len() < SOURCE_BYTES {
         return false;
     }
-    (u16_at(file, 0) == 58) & (u16_at(file, 2) == 0)
+    (u16_at(file, 0) == LENGTH_SOURCE) & (u16_at(file, LENGTH_BYTES) == KIND_SOURCE)
 }
 
 // Three slots from one on.
@@ -44,27 +59,18 @@ pub fn read_source(file: &[u8]) -> Source
 {
     if is_source(file) {
         let ray = Ray {
-            origin: vector(file, 0),
-            direction: vector(file, 3),
+            origin: vector(file, ORIGIN),
+            direction: vector(file, DIRECTION),
         };
         return Source {
-            number: 1,
+            number: ACCEPTED,
             ray,
-            index: slot(file, 0, 6),
+            index: slot(file, 0, INDEX),
         };
     }
-    let zeros = Vec3 {
-        x: 0.0,
-        y: 0.0,
-        z: 0.0,
-    };
-    let ray = Ray {
-        origin: zeros,
-        direction: zeros,
-    };
     Source {
-        number: 10,
-        ray,
+        number: MALFORMED,
+        ray: no_ray(),
         index: 0.0,
     }
 }

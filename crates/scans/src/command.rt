@@ -22,7 +22,7 @@ pub enum Command {
     // So many bytes, which stand beside the command.
     Recipe(usize),
     Room(usize),
-    Start(Ray, f64),
+    Start { ray: Ray, index: f64 },
     State(State),
     Continue(u16),
     Unreadable,
@@ -98,7 +98,10 @@ fn read_start(line: &[u8], at: usize) -> Command {
     let index = next_number(line, from.next);
     let ray = from.value;
     if is_end(line, index.next) {
-        Command::Start(ray, index.value)
+        Command::Start {
+            ray,
+            index: index.value,
+        }
     } else {
         Command::Unreadable
     }

@@ -1,6 +1,6 @@
-// One station, driven by the script on standard input: a line gives it a recipe, room for results or a state, or has it start a trace
-// or continue one. To the last two it replies with the answer, the state, and what stands in the results. A line that cannot be read
-// is answered `?`.
+// One station, driven by the script on standard input: a line gives it a recipe, room for results or a state, or has it
+// start a trace or continue one. To the last two it replies with the answer, the state, and what stands in the results.
+// A line that cannot be read is answered `?`.
 mod command;
 mod operands;
 mod reply;
@@ -11,7 +11,8 @@ use command::Command;
 use command::LONGEST;
 use command::WIDEST;
 use command::read_command;
-use lines::Line;
+use lines::LONGEST_LINE;
+use lines::ReadLine;
 use lines::Unread;
 use lines::next_line;
 use lines::part;
@@ -19,17 +20,17 @@ use station::new_station;
 use station::obey;
 
 // The longest line that is read, and its line feed.
-const BUFFER: usize = 131201;
+const BUFFER: usize = LONGEST_LINE + 1;
 
 type Buffer = [u8; BUFFER];
 
 type Results = [f64; WIDEST];
 
-fn command_of(line: Line, buffer: &[u8], given: &mut Bytes) -> Command {
+fn command_of(line: ReadLine, buffer: &[u8], given: &mut Bytes) -> Command {
     match line {
-        Line::At(start, end) => read_command(part(buffer, start, end), given),
-        Line::TooLong => Command::Unreadable,
-        Line::End => Command::End,
+        ReadLine::Given { start, end } => read_command(part(buffer, start, end), given),
+        ReadLine::TooLong => Command::Unreadable,
+        ReadLine::End => Command::End,
     }
 }
 

@@ -37,7 +37,7 @@ pub(crate) fn next_count(line: &[u8], at: usize, most: u64) -> NextCount
 {
     let word = next_word(line, at);
     match read_count(part(line, word.start, word.end), most) {
-        ReadCount::Is(value) => NextCount {
+        ReadCount::Given(value) => NextCount {
             value,
             next: word.end,
         },
@@ -51,7 +51,7 @@ pub(crate) fn next_count(line: &[u8], at: usize, most: u64) -> NextCount
 pub(crate) fn next_number(line: &[u8], at: usize) -> NextNumber {
     let word = next_word(line, at);
     match read_float(part(line, word.start, word.end)) {
-        ReadFloat::Is(value) => NextNumber {
+        ReadFloat::Given(value) => NextNumber {
             value,
             next: word.end,
         },

@@ -5,8 +5,10 @@ use crate::reply::print_reply;
 use crate::reply::print_unreadable;
 use lines::part;
 use surfaces::Ray;
-use surfaces::Vec3;
+use surfaces::no_ray;
 use trace::Beam;
+use trace::MOST_ROOM;
+use trace::RUNNING;
 use trace::State;
 use trace::start;
 
@@ -23,18 +25,10 @@ pub struct Turn {
     pub going: bool,
 }
 
-// Without a recipe, with room for 512 records.
+// Without a recipe, with room for the most records.
 pub(crate) fn new_station() -> Station {
-    let zero = Vec3 {
-        x: 0.0,
-        y: 0.0,
-        z: 0.0,
-    };
     let beam = Beam {
-        ray: Ray {
-            origin: zero,
-            direction: zero,
-        },
+        ray: no_ray(),
         index: 0.0,
         path: 0.0,
     };
@@ -45,11 +39,11 @@ pub(crate) fn new_station() -> Station {
         t: 0.0,
         beam,
         steps: 0,
-        outcome: 0,
+        outcome: RUNNING,
     };
     Station {
         length: 0,
-        room: 6656,
+        room: MOST_ROOM,
         state,
     }
 }
@@ -74,7 +68,7 @@ pub(crate) fn obey(
             fill(first(results, n));
             after(length, n, state, true)
         }
-        Command::Start(ray, index) => begin(
+        Command::Start { ray, index } => begin(
             s,
             part(recipe, 0, length),
             ray,

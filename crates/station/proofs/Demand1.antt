@@ -7,15 +7,16 @@ use mathlib.Core.Bool.{Bool, true, false}
 use lib.Dec.{eqb}
 use lib.Ieee.{Float}
 use borrow.Author.Tests.{eqb-true}
-use Rattle.surfaces.proofs.Choice.{either}
-use Rattle.trace.specs.Trace.{Reply, continueOf}
+use Rattle.numbers.proofs.Choice.{either}
+use Rattle.trace.specs.Run.{Reply, continueOf}
 use Rattle.trace.specs.Demand1 as trace
 use Rattle.trace.proofs.Demand1.{demand-1}
 use Rattle.station.specs.declared.Verdict.{Verdict}
 use Rattle.station.specs.Lent.{Left, stateIn, countsOf, numbersOf, verdictOf, told, toldIfAccepted, continued}
 use Rattle.station.specs.Demand1.{Answers, Blanked, Unchanged, Demand1}
 
-answered : {l b : List ℕ} (w : Left) (r : Reply) → w .verdict ≡ verdictOf (r .answer) → trace.Answers l b r → Answers l b w
+answered : {l b : List ℕ} (w : Left) (r : Reply) → w .verdict ≡ verdictOf (r .answer) → trace.Answers l b r
+    → Answers l b w
 answered w r e a = record { number = rw e (a .number); place = rw e (a .place) }
 
 blanked : (z : List Float) (r : Reply) → trace.Blanked z r → Blanked z (told r)
@@ -39,7 +40,9 @@ module _ (b c : List ℕ) (x z : List Float) (allowed : ℕ) where
     where
       by : (t : Bool) → eqb (r .answer .number) 1 ≡ t → Unchanged c x z (toldIfAccepted c x r)
       by true e = absurd (h (eqb-true _ _ e))
-      by false e = rw e (record { counts = refl; numbers = refl; buffer = demand-1 .refused-resume b (stateIn c x) z allowed h .buffer })
+      by false e =
+          let kept = demand-1 .refused-resume b (stateIn c x) z allowed h in
+          rw e (record { counts = refl; numbers = refl; buffer = kept .buffer })
 
   twelve : (continued b c x z allowed .verdict .number ≡ 12) ↔ trace.Refused12 b (stateIn c x) z
   twelve = let t = demand-1 .twelve b (stateIn c x) z allowed in (λ e. t .0 (sym number ∙ e), λ u. number ∙ t .1 u)

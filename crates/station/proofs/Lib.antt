@@ -1,4 +1,4 @@
 -- What a controller may count on.
 pub mod Cases
-pub mod Carried
-pub mod Demand1
+mod Carried
+mod Demand1

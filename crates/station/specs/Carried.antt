@@ -1,4 +1,5 @@
--- What a controller may count on beside each call's promise: demand 3 through the lent arrays, and counts that no state holds. Definitions only.
+-- What a controller may count on beside each promise: demand 3 (SCOPE D3) through the lent arrays, and counts that no
+-- state holds. Definitions only.
 use Prim.Native.Nat.{ℕ, _*_, _≤_}
 use mathlib.Core.Path.{_≡_}
 use mathlib.Core.Logic.{_⊎_}
@@ -10,7 +11,7 @@ use Rattle.numbers.specs.Arithmetic.{if_then_else_}
 use Rattle.surfaces.specs.declared.types.Ray.{Ray}
 use Rattle.recipe.specs.Scan.{Scan, refused, items}
 use Rattle.trace.specs.Leg.{width}
-use Rattle.trace.specs.Trace.{recipeOf, startOf}
+use Rattle.trace.specs.Run.{recipeOf, startOf}
 use Rattle.trace.specs.Demand3.{Accepted, called}
 use Rattle.station.specs.declared.Verdict.{Verdict}
 use Rattle.station.specs.Lent.{Left, left, told, continued}
@@ -34,4 +35,5 @@ pub record Carried : Type 0 where
   pub carries : (b : List ℕ) (ray : Ray) (index : Float) (z : List Float) (allowances : List ℕ) → Accepted b ray index z
       → scans b allowances (told (startOf b ray index z)) ≡ told (called b ray index z allowances)
   -- counts beyond the state's types are refused, and nothing is written
-  pub refuses : (b c : List ℕ) (x z : List Float) (allowed : ℕ) → Beyond c → continued b c x z allowed ≡ left (unfit (recipeOf b) (length z)) c x z
+  pub refuses : (b c : List ℕ) (x z : List Float) (allowed : ℕ) → Beyond c
+      → continued b c x z allowed ≡ left (unfit (recipeOf b) (length z)) c x z

@@ -1,5 +1,5 @@
--- Worked cases of the state in its arrays and of what calls leave there: one list, which one theorem covers. A row has a rule's answer and what it should
--- be, as numbers and bit patterns. Assumes nothing.
+-- Worked cases of the state in its arrays and of what calls leave there: one list, which one theorem covers. A row has
+-- a rule's answer and what it should be, as numbers and bit patterns. Assumes nothing.
 use Prim.Native.Nat.{ℕ}
 use mathlib.Core.Path.{_≡_, refl}
 use mathlib.Core.List.{List, [], _∷_, _++_}
@@ -8,20 +8,22 @@ use lib.ListN.{replicate}
 use lib.Ieee.{Float, ofBits, toBits, ofInt, neg, round, add, sub, mul, div, lt, le, eq, isNan}
 use Rattle.numbers.specs.Arithmetic.{decimal, 0f, 1f, 2f}
 use Rattle.numbers.specs.Basic.{magnitude, negative, larger, clamped, infinite}
-use Rattle.numbers.specs.Sqrt.{root}
+use Rattle.numbers.specs.Root.{root}
 use Rattle.surfaces.specs.Types.{rayOf, dotOf, overOf, distance, pointAt, allFinite, rayFinite, everyFinite}
 use Rattle.surfaces.specs.Snell.{turnedIf, negatedIf, bent, refracted}
 use Rattle.surfaces.specs.Conic.{landedWithin, planeCrossing, conicCrossing, conicNormal, gradientNormal, normalAt}
-use Rattle.surfaces.specs.Surface.{passRule, limitOf, surfaceNormal, onwardFrom, turnRule}
+use Rattle.surfaces.specs.Surface.{passAnswer, limitOf, surfaceNormal, onwardFrom, turnAnswer}
 use Rattle.surfaces.specs.Edges.{_over_, whole, bits, Case, _⇒_, agree}
 use Rattle.surfaces.specs.declared.types.Ray.{Ray}
 use Rattle.recipe.specs.Endian.{u16At, u64At, numberAt, numbersAt}
-use Rattle.recipe.specs.Record.{slotAt, lengthFits, shapedAt, semiSlot, kindOf, coefficientCount, coefficientsAt, opticAt, recordAt}
+use Rattle.recipe.specs.Record.{slotAt, lengthFits, shapedAt, semiSlot, kindOf, coefficientCount, coefficientsAt}
+use Rattle.recipe.specs.Record.{opticAt, recordAt}
 use Rattle.recipe.specs.Scan.{scan, notes}
 use Rattle.trace.specs.declared.state.State.{State}
-use Rattle.trace.specs.Leg.{boundaryOf, farther, legFinite, legOf, beamAfter, hitRow, rowOf}
-use Rattle.trace.specs.State.{stateAfter, surfaceLeft, stepOn, move, advance, outcomeKnown, placeFits, passesFit, beamGood, fitsOf}
-use Rattle.trace.specs.Trace.{refusedAnswer, admission, startAt, startOf, continueOf}
+use Rattle.trace.specs.Leg.{boundaryOf, share, legFinite, legOf, beamAfter, hitRow, rowOf}
+use Rattle.trace.specs.State.{stateAfter, surfaceLeft, stepOn, move, advance, outcomeKnown, placeFits, passesFit}
+use Rattle.trace.specs.State.{beamGood, fitsOf}
+use Rattle.trace.specs.Run.{refusedAnswer, admission, startAt, startOf, continueOf}
 use Rattle.trace.specs.Example.{bytes, patterns, planeRecord}
 use Rattle.station.specs.Lent.{passesIn, outcomeIn, stateIn, countsOf, numbersOf, Left, told, continued}
 
@@ -42,7 +44,11 @@ some = record {
   place = 12;
   passes = 13;
   t = whole 1;
-  beam = record { ray = rayOf (whole 2) (whole 3) (whole 4) (whole 5) (whole 6) (whole 7); index = whole 8; path = whole 9 };
+  beam = record {
+    ray = rayOf (whole 2) (whole 3) (whole 4) (whole 5) (whole 6) (whole 7);
+    index = whole 8;
+    path = whole 9;
+  };
   steps = 14;
   outcome = 15;
 }
@@ -53,7 +59,7 @@ one-to-nine =
     0x3ff0000000000000 ∷ 0x4000000000000000 ∷ 0x4008000000000000 ∷ 0x4010000000000000 ∷ 0x4014000000000000
     ∷ 0x4018000000000000 ∷ 0x401c000000000000 ∷ 0x4020000000000000 ∷ 0x4022000000000000 ∷ []
 
--- document 01's example: a ray from (0, 0, -5) along z in index 1, and a plane at 0 into index 2
+-- the example of SCOPE L4: a ray from (0, 0, -5) along z in index 1, and a plane at 0 into index 2
 abbrev pub ray : Ray
 ray = rayOf 0f 0f (neg (whole 5)) 0f 0f 1f
 
@@ -74,13 +80,24 @@ cases =
     -- passes and an outcome beyond the state's types are the types' largest
     (countsOf (stateIn (0 ∷ 0 ∷ 65535 ∷ 0 ∷ 255 ∷ []) numbers) ⇒ 0 ∷ 0 ∷ 65535 ∷ 0 ∷ 255 ∷ []) ∷
     (countsOf (stateIn (0 ∷ 0 ∷ 65536 ∷ 0 ∷ 256 ∷ []) numbers) ⇒ 0 ∷ 0 ∷ 65535 ∷ 0 ∷ 255 ∷ []) ∷
-    -- a start writes the state before the first surface and blanks, a step the surface's record; a refused start the refusal alone
-    (shown (told (startOf planeRecord ray 1f (replicate 13 2f))) ⇒ 1 ∷ 0 ∷ 0 ∷ 0 ∷ 0 ∷ 0 ∷ 0 ∷ bits (begun ++ replicate 13 0f)) ∷
-    (shown (continued planeRecord (0 ∷ 0 ∷ 0 ∷ 0 ∷ 0 ∷ []) begun (replicate 13 0f) 1) ⇒ 1 ∷ 0 ∷ 1 ∷ 44 ∷ 0 ∷ 1 ∷ 1 ∷ bits (ended ++ hitRecord)) ∷
-    (shown (told (startOf planeRecord ray 1f (replicate 12 2f))) ⇒ 11 ∷ 0 ∷ 0 ∷ 0 ∷ 0 ∷ 0 ∷ 11 ∷ bits (replicate 21 0f)) ∷
+    -- a start writes the state before the first surface and blanks, a step the surface's record; a refused start the
+    -- refusal alone
+    (shown (told (startOf planeRecord ray 1f (replicate 13 2f))) ⇒
+    1 ∷ 0 ∷ 0 ∷ 0 ∷ 0 ∷ 0 ∷ 0 ∷ bits (begun ++ replicate 13 0f)) ∷
+    (shown (continued planeRecord (0 ∷ 0 ∷ 0 ∷ 0 ∷ 0 ∷ []) begun (replicate 13 0f) 1) ⇒
+    1 ∷ 0 ∷ 1 ∷ 44 ∷ 0 ∷ 1 ∷ 1 ∷ bits (ended ++ hitRecord)) ∷
+    (shown (told (startOf planeRecord ray 1f (replicate 12 2f))) ⇒
+    11 ∷ 0 ∷ 0 ∷ 0 ∷ 0 ∷ 0 ∷ 11 ∷ bits (replicate 21 0f)) ∷
     -- a refused continuation writes nothing, not even a count that it reads as the type's largest
-    (shown (continued planeRecord (0 ∷ 0 ∷ 65536 ∷ 0 ∷ 0 ∷ []) begun (replicate 13 2f) 1) ⇒ 12 ∷ 0 ∷ 0 ∷ 0 ∷ 65536 ∷ 0 ∷ 0 ∷ bits (begun ++ replicate 13 2f)) ∷ []
+    (shown (continued planeRecord (0 ∷ 0 ∷ 65536 ∷ 0 ∷ 0 ∷ []) begun (replicate 13 2f) 1) ⇒
+    12 ∷ 0 ∷ 0 ∷ 0 ∷ 65536 ∷ 0 ∷ 0 ∷ bits (begun ++ replicate 13 2f)) ∷ []
 
 pub each-case : agree cases ≡ true
-unfolding cases bits _over_ rayOf passesIn outcomeIn stateIn countsOf numbersOf continued bytes patterns planeRecord decimal magnitude negative larger clamped infinite root neg round add sub mul div lt le eq isNan ofBits toBits ofInt dotOf overOf distance pointAt allFinite rayFinite everyFinite turnedIf negatedIf bent refracted landedWithin planeCrossing conicCrossing conicNormal gradientNormal normalAt passRule limitOf surfaceNormal onwardFrom turnRule u16At u64At numberAt numbersAt slotAt lengthFits shapedAt semiSlot kindOf coefficientCount coefficientsAt opticAt recordAt scan notes boundaryOf farther legFinite legOf beamAfter hitRow rowOf stateAfter surfaceLeft stepOn move advance outcomeKnown placeFits passesFit beamGood fitsOf refusedAnswer admission startAt startOf continueOf
+unfolding cases bits _over_ rayOf passesIn outcomeIn stateIn countsOf numbersOf continued bytes patterns planeRecord
+    decimal magnitude negative larger clamped infinite root neg round add sub mul div lt le eq isNan ofBits toBits ofInt
+    dotOf overOf distance pointAt allFinite rayFinite everyFinite turnedIf negatedIf bent refracted landedWithin
+    planeCrossing conicCrossing conicNormal gradientNormal normalAt passAnswer limitOf surfaceNormal onwardFrom
+    turnAnswer u16At u64At numberAt numbersAt slotAt lengthFits shapedAt semiSlot kindOf coefficientCount coefficientsAt
+    opticAt recordAt scan notes boundaryOf share legFinite legOf beamAfter hitRow rowOf stateAfter surfaceLeft stepOn
+    move advance outcomeKnown placeFits passesFit beamGood fitsOf refusedAnswer admission startAt startOf continueOf
 each-case = refl

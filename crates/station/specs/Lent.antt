@@ -8,7 +8,7 @@ use Rattle.numbers.specs.Arithmetic.{if_then_else_}
 use Rattle.surfaces.specs.Types.{rayOf}
 use Rattle.trace.specs.declared.state.State.{State}
 use Rattle.trace.specs.declared.run.Answer.{Answer}
-use Rattle.trace.specs.Trace.{Reply, continueOf}
+use Rattle.trace.specs.Run.{Reply, continueOf}
 use Rattle.station.specs.declared.Verdict.{Verdict}
 
 abbrev pub version : ℕ

@@ -1,12 +1,14 @@
-// The trace under names that C can link. Its state is kept in two lent arrays, so that a controller can hold it across scans and power
-// cycles: the counts are surface number, place, passes, all steps and outcome; the numbers are t, origin, direction, index and path.
-// Whatever stands in them is answered.
+// The trace under names that C can link. Its state is kept in two lent arrays, so that a controller can hold it across
+// scans and power cycles: the counts are surface number, place, passes, all steps and outcome; the numbers are t,
+// origin, direction, index and path. Whatever stands in them is answered.
 ghost use mathlib.Core.Path.{_≡_};
 ghost use mathlib.Core.List.{List};
 ghost use lib.Ieee.{Float};
 ghost use Rattle.surfaces.specs.Types.{rayOf};
-ghost use Rattle.trace.specs.Trace.{startOf, wholeOf};
-ghost use Rattle.station.specs.Lent.{version, passesIn, outcomeIn, stateIn, countsOf, numbersOf, verdictOf, left, told, continued};
+ghost use Rattle.trace.specs.Run.{startOf, wholeOf};
+ghost use Rattle.station.specs.Lent.{version, passesIn, outcomeIn, stateIn, countsOf, numbersOf, verdictOf, left};
+ghost use Rattle.station.specs.Lent.{told, continued};
+use surfaces::ACCEPTED;
 use surfaces::ray_of;
 use trace::Answer;
 use trace::Beam;
@@ -14,9 +16,42 @@ use trace::State;
 use trace::start;
 use trace::whole;
 
-pub const COUNTS: usize = 5;
+// The version of this interface.
+pub const VERSION: u64 = 1;
 
-pub const NUMBERS: usize = 9;
+// The slots of the counts, and how many there are.
+pub const COUNTS_SURFACE: usize = 0;
+
+pub const COUNTS_PLACE: usize = 1;
+
+pub const COUNTS_PASSES: usize = 2;
+
+pub const COUNTS_STEPS: usize = 3;
+
+pub const COUNTS_OUTCOME: usize = 4;
+
+pub const COUNTS: usize = COUNTS_OUTCOME + 1;
+
+// Those of the numbers, of which origin and direction have three each.
+pub const NUMBERS_T: usize = 0;
+
+pub const NUMBERS_ORIGIN: usize = 1;
+
+const ORIGIN_Y: usize = NUMBERS_ORIGIN + 1;
+
+const ORIGIN_Z: usize = NUMBERS_ORIGIN + 2;
+
+pub const NUMBERS_DIRECTION: usize = NUMBERS_ORIGIN + 3;
+
+const DIRECTION_Y: usize = NUMBERS_DIRECTION + 1;
+
+const DIRECTION_Z: usize = NUMBERS_DIRECTION + 2;
+
+pub const NUMBERS_INDEX: usize = NUMBERS_DIRECTION + 3;
+
+pub const NUMBERS_PATH: usize = NUMBERS_INDEX + 1;
+
+pub const NUMBERS: usize = NUMBERS_PATH + 1;
 
 // 1 or the refusal, and the refused record's place.
 #[repr(C)]
@@ -42,17 +77,24 @@ fn state_in(c: [u64; COUNTS], x: [f64; NUMBERS]) -> State
     ensures { λ r. ⌜ r ≡ stateIn c x ⌝ }
 {
     State {
-        number: c[0] as usize,
-        place: c[1] as usize,
-        passes: passes_in(c[2]),
-        t: x[0],
+        number: c[COUNTS_SURFACE] as usize,
+        place: c[COUNTS_PLACE] as usize,
+        passes: passes_in(c[COUNTS_PASSES]),
+        t: x[NUMBERS_T],
         beam: Beam {
-            ray: ray_of(x[1], x[2], x[3], x[4], x[5], x[6]),
-            index: x[7],
-            path: x[8],
+            ray: ray_of(
+                x[NUMBERS_ORIGIN],
+                x[ORIGIN_Y],
+                x[ORIGIN_Z],
+                x[NUMBERS_DIRECTION],
+                x[DIRECTION_Y],
+                x[DIRECTION_Z],
+            ),
+            index: x[NUMBERS_INDEX],
+            path: x[NUMBERS_PATH],
         },
-        steps: c[3] as usize,
-        outcome: outcome_in(c[4]),
+        steps: c[COUNTS_STEPS] as usize,
+        outcome: outcome_in(c[COUNTS_OUTCOME]),
     }
 }
 
@@ -88,7 +130,8 @@ fn verdict_of(a: Answer) -> Verdict
 
 // Start and whole write the state that they answer.
 fn tell(a: Answer, counts: &mut [u64; COUNTS], numbers: &mut [f64; NUMBERS]) -> Verdict
-    ensures { λ r. ⌜ ((z : List Float) → left r (now (counts .exit)) (now (numbers .exit)) z ≡ told (record { answer = a; buffer = z })) ⌝ }
+    ensures { λ r. ⌜ ((z : List Float)
+        → left r (now (counts .exit)) (now (numbers .exit)) z ≡ told (record { answer = a; buffer = z })) ⌝ }
 {
     *counts = counts_of(a.state);
     *numbers = numbers_of(a.state);
@@ -109,7 +152,8 @@ pub extern "C" fn pilingrue_start(
     counts: &mut [u64; COUNTS],
     numbers: &mut [f64; NUMBERS],
 ) -> Verdict
-    ensures { λ r. ⌜ left r (now (counts .exit)) (now (numbers .exit)) (now (buf .exit)) ≡ told (startOf (now (recipe .entry)) (rayOf ox oy oz dx dy dz) index (now (buf .entry))) ⌝ }
+    ensures { λ r. ⌜ left r (now (counts .exit)) (now (numbers .exit)) (now (buf .exit))
+        ≡ told (startOf (now (recipe .entry)) (rayOf ox oy oz dx dy dz) index (now (buf .entry))) ⌝ }
 {
     tell(
         start(recipe, ray_of(ox, oy, oz, dx, dy, dz), index, buf),
@@ -127,10 +171,11 @@ pub extern "C" fn pilingrue_continue(
     numbers: &mut [f64; NUMBERS],
     allowed: u16,
 ) -> Verdict
-    ensures { λ r. ⌜ left r (now (counts .exit)) (now (numbers .exit)) (now (buf .exit)) ≡ continued (now (recipe .entry)) (now (counts .entry)) (now (numbers .entry)) (now (buf .entry)) allowed ⌝ }
+    ensures { λ r. ⌜ left r (now (counts .exit)) (now (numbers .exit)) (now (buf .exit))
+        ≡ continued (now (recipe .entry)) (now (counts .entry)) (now (numbers .entry)) (now (buf .entry)) allowed ⌝ }
 {
     let a = state_in(*counts, *numbers).resume(recipe, buf, allowed);
-    if a.number != 1 {
+    if a.number != ACCEPTED {
         return verdict_of(a);
     }
     tell(a, counts, numbers)
@@ -150,7 +195,8 @@ pub extern "C" fn pilingrue_whole(
     counts: &mut [u64; COUNTS],
     numbers: &mut [f64; NUMBERS],
 ) -> Verdict
-    ensures { λ r. ⌜ left r (now (counts .exit)) (now (numbers .exit)) (now (buf .exit)) ≡ told (wholeOf (now (recipe .entry)) (rayOf ox oy oz dx dy dz) index (now (buf .entry))) ⌝ }
+    ensures { λ r. ⌜ left r (now (counts .exit)) (now (numbers .exit)) (now (buf .exit))
+        ≡ told (wholeOf (now (recipe .entry)) (rayOf ox oy oz dx dy dz) index (now (buf .entry))) ⌝ }
 {
     tell(
         whole(recipe, ray_of(ox, oy, oz, dx, dy, dz), index, buf),
@@ -159,10 +205,10 @@ pub extern "C" fn pilingrue_whole(
     )
 }
 
-// The version of this interface, for a program to hold its header's against.
+// For a program to hold its header's version against.
 #[no_mangle]
 pub extern "C" fn pilingrue_version() -> u64
     ensures { λ r. ⌜ r ≡ version ⌝ }
 {
-    1
+    VERSION
 }

@@ -8,15 +8,18 @@ use lib.Ieee.Fits.{round-fits}
 use lib.Ieee.Bits.{ofBits-toBits}
 use Rattle.numbers.specs.Arithmetic.{if_then_else_, decimal, 0f}
 use Rattle.numbers.specs.Basic.{larger, negative}
-use Rattle.numbers.specs.Sqrt.{root}
-use Rattle.surfaces.specs.Types.{sameAbove0, rootAgain}
-use Rattle.surfaces.proofs.Choice.{either}
+use Rattle.numbers.specs.Root.{root}
+use Rattle.surfaces.specs.Parts.{sameAbove0, rootAgain}
+use Rattle.numbers.proofs.Choice.{either}
 
 abbrev Fits : Float → Type 0
 Fits x = T (fits binary64 x)
 
-chosen : (a : Bool) (x y : Float) → Fits x → Fits y → (if a then eqb (toBits binary64 x) (toBits binary64 y) else false) ≡ true → x ≡ y
-chosen true x y f g h = sym (ofBits-toBits binary64 x f) ∙ ap (ofBits binary64) (eqb-true (toBits binary64 x) (toBits binary64 y) h) ∙ ofBits-toBits binary64 y g
+chosen : (a : Bool) (x y : Float) → Fits x → Fits y →
+    (if a then eqb (toBits binary64 x) (toBits binary64 y) else false) ≡ true → x ≡ y
+chosen true x y f g h =
+    sym (ofBits-toBits binary64 x f) ∙ ap (ofBits binary64) (eqb-true (toBits binary64 x) (toBits binary64 y) h)
+    ∙ ofBits-toBits binary64 y g
 chosen false x y f g h = absurd (false≢true h)
 
 one-number : (x y : Float) → Fits x → Fits y → sameAbove0 x y ≡ true → x ≡ y
@@ -35,4 +38,6 @@ pub larger-fits : (x : Float) → Fits x → Fits (larger x 0f)
 unfolding larger decimal
 larger-fits x f =
     let z = round-fits binary64 false 0 1 in
-    either Fits (isNan x) _ _ z (either Fits (isNan 0f) _ _ f (either Fits (lt x 0f) _ _ z (either Fits (lt 0f x) _ _ f (either Fits (negative x) _ _ z f))))
+    either Fits (isNan x) _ _ z
+    (either Fits (isNan 0f) _ _ f
+    (either Fits (lt x 0f) _ _ z (either Fits (lt 0f x) _ _ f (either Fits (negative x) _ _ z f))))

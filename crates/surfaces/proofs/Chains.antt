@@ -1,25 +1,23 @@
 -- A chain of passes ends as the kind's own rule says. Assumes nothing.
 use Prim.Native.Nat.{ℕ, zero, suc, _+_, _<_, _≤_}
-use mathlib.Core.Path.{_≡_, refl, sym, _∙_}
+use mathlib.Core.Path.{_≡_, refl, sym, ap, _∙_}
 use mathlib.Core.Bool.{Bool, true, false}
 use native.Mathlib.Omega.{arith}
 use lib.Dec.{lit≤}
 use lib.Ieee.{Float}
-use Rattle.numbers.specs.Arithmetic.{if_then_else_, 0f}
-use Rattle.surfaces.specs.Types.{noCoefficients}
-use Rattle.surfaces.specs.Told.{Told, Ended, ended}
+use Rattle.numbers.specs.Arithmetic.{if_then_else_}
+use Rattle.surfaces.specs.Refusal.{Told, Ended, ended}
 use Rattle.surfaces.specs.Conic.{parallel}
 use Rattle.surfaces.specs.Newton.{Shape, going, passAt, vertexPlane, passesFrom, newtonEnd, limitedPass}
-use Rattle.surfaces.specs.Surface.{shapeOf, conicOf, familyOf, passRule, surfaceEnd, limitOf, chain, ChainEnds}
+use Rattle.surfaces.specs.Surface.{Way, whole, passes, wayOf, limitBy, passAnswer, surfaceEnd, limitOf, chain}
+use Rattle.surfaces.specs.Surface.{ChainEnds}
 use Rattle.surfaces.specs.declared.types.Ray.{Ray}
 use Rattle.surfaces.specs.declared.types.Landing.{Landing}
-use Rattle.surfaces.specs.declared.surface.Family.{Family}
-use Rattle.surfaces.specs.declared.surface.Family.the-variants as family
 use Rattle.surfaces.specs.declared.surface.Kind.{Kind}
 use Rattle.surfaces.specs.declared.surface.Kind.the-variants.{Conic, Even, Biconic, Toroid}
 use Rattle.surfaces.specs.declared.surface.Surface.{Surface}
-use Rattle.surfaces.proofs.Choice.{either}
-use Rattle.surfaces.proofs.Shared.{kind-alone}
+use Rattle.numbers.proofs.Choice.{either}
+use Rattle.surfaces.proofs.Ways.{kind-limit}
 use Rattle.surfaces.proofs.Passes.{onFrom, next, step, more}
 use Rattle.surfaces.proofs.Stops.{at-once}
 
@@ -40,15 +38,18 @@ abbrev Bounded : Ended → ℕ → Type 0
 Bounded e n = Over (e .answer) × (e .passes ≤ n)
 
 module _ (q : Shape) (vertex : Float) (ray : Ray) where
-  turn-bounded : (x : Told Landing) (g : Bool) (left made : ℕ) → going x ≡ g → Bounded (passesFrom q vertex ray left (suc made) (x .value .t)) (suc made + left) →
-      Bounded (if g then passesFrom q vertex ray left (suc made) (x .value .t) else ended x (suc made)) (made + suc left)
+  turn-bounded : (x : Told Landing) (g : Bool) (left made : ℕ) → going x ≡ g →
+      Bounded (passesFrom q vertex ray left (suc made) (x .value .t)) (suc made + left) →
+      Bounded (if g then passesFrom q vertex ray left (suc made) (x .value .t) else ended x (suc made))
+      (made + suc left)
   turn-bounded x true left made e b = (b .0, omega (arith, b .1))
   turn-bounded x false left made e b = (e, omega arith)
 
   passes-bounded : (left made : ℕ) (t : Float) → Bounded (passesFrom q vertex ray left made t) (made + left)
   unfolding passesFrom
   passes-bounded zero made t = (refl, omega arith)
-  passes-bounded (suc left) made t = turn-bounded (passAt q vertex ray t) _ left made refl (passes-bounded left (suc made) _)
+  passes-bounded (suc left) made t =
+      turn-bounded (passAt q vertex ray t) _ left made refl (passes-bounded left (suc made) _)
 
   end-bounded : 0 < q .limit → Bounded (newtonEnd q vertex ray) (q .limit)
   unfolding newtonEnd
@@ -57,21 +58,27 @@ module _ (q : Shape) (vertex : Float) (ray : Ray) where
       either (λ e. Bounded e (q .limit)) (parallel ray) _ _ (refl, omega arith) (b .0, omega (arith, b .1))
 
 -- a surface whose passes are a shape's
-module _ (s : Surface) (ray : Ray) (q : Shape) (same : (made : ℕ) (t : Float) → passRule s ray made t ≡ limitedPass q (s .vertex) ray made t) where
-  chosen : (x : Told Landing) (g : Bool) (n made : ℕ) → going x ≡ g → (g ≡ true → chain s ray n (suc made) (x .value .t) ≡ onFrom q (s .vertex) ray (suc made) (x .value .t)) →
+module _ (s : Surface) (ray : Ray) (q : Shape)
+    (same : (made : ℕ) (t : Float) → passAnswer s ray made t ≡ limitedPass q (s .vertex) ray made t) where
+  chosen : (x : Told Landing) (g : Bool) (n made : ℕ) → going x ≡ g →
+      (g ≡ true → chain s ray n (suc made) (x .value .t) ≡ onFrom q (s .vertex) ray (suc made) (x .value .t)) →
       (if going x then chain s ray n (suc made) (x .value .t) else ended x (suc made)) ≡ next q (s .vertex) ray made x
   chosen x true n made e h = rw (e, h refl)
   chosen x false n made e h = rw e
 
-  from-here : (n made : ℕ) (t : Float) → made < q .limit → q .limit ≡ n + made → chain s ray n made t ≡ onFrom q (s .vertex) ray made t
+  from-here : (n made : ℕ) (t : Float) → made < q .limit → q .limit ≡ n + made → chain s ray n made t ≡
+      onFrom q (s .vertex) ray made t
   unfolding chain
   from-here zero made t h k = absurd (omega arith)
   from-here (suc n) made t h k =
       let x = limitedPass q (s .vertex) ray made t in
-      rw (same made t) (chosen x _ n made refl (λ g. from-here n (suc made) (x .value .t) (more q (s .vertex) ray made t g) (omega arith))
+      rw (same made t)
+      (chosen x _ n made refl
+      (λ g. from-here n (suc made) (x .value .t) (more q (s .vertex) ray made t g) (omega arith))
       ∙ sym (step q (s .vertex) ray made t h))
 
-  by-passes : (t : Float) → surfaceEnd s ray ≡ newtonEnd q (s .vertex) ray → limitOf (s .kind) ≡ q .limit → ChainEnds s ray t
+  by-passes : (t : Float) → surfaceEnd s ray ≡ newtonEnd q (s .vertex) ray → limitOf (s .kind) ≡ q .limit →
+      ChainEnds s ray t
   by-passes t e l =
       let h : 0 < q .limit = omega (arith, limit-bounds (s .kind) .0, l) in
       let b = end-bounded q (s .vertex) ray h in
@@ -81,13 +88,13 @@ module _ (s : Surface) (ray : Ray) (q : Shape) (same : (made : ℕ) (t : Float) 
         within = rw (l, e) (b .1);
       }
 
-by-family : (f : Family) (s : Surface) (ray : Ray) (t : Float) → familyOf (s .kind) ≡ f → ChainEnds s ray t
-unfolding passRule surfaceEnd limitOf chain
-by-family (family.Conic c k) s ray t e =
-    let x = at-once ray (conicOf s c k) in
-    record { same = rw (e, e, x); ends = rw (e, x); within = rw e (omega arith) }
-by-family (family.Newton q) s ray t e =
-    by-passes s ray (shapeOf q (s .coefficients) (s .semi)) (λ made u. rw e) t (rw e) (rw e (kind-alone q noCoefficients (s .coefficients) 0f (s .semi) .1))
+by-way : (w : Way) (s : Surface) (ray : Ray) (t : Float) → wayOf (s .kind) s ≡ w → ChainEnds s ray t
+unfolding passAnswer surfaceEnd chain
+by-way (whole q) s ray t e =
+    let x = at-once ray q in
+    let l = kind-limit (s .kind) s ∙ ap limitBy e in
+    record { same = rw (l, e, x); ends = rw (e, x); within = rw (l, e) (omega arith) }
+by-way (passes q) s ray t e = by-passes s ray q (λ made u. rw e) t (rw e) (kind-limit (s .kind) s ∙ ap limitBy e)
 
 pub chain-ends : (s : Surface) (ray : Ray) (t : Float) → ChainEnds s ray t
-chain-ends s ray t = by-family (familyOf (s .kind)) s ray t refl
+chain-ends s ray t = by-way (wayOf (s .kind) s) s ray t refl

@@ -9,14 +9,26 @@ use lib.Ieee.{Float}
 use lib.Ieee.Scale.{finite}
 use Rattle.numbers.specs.Arithmetic.{if_then_else_}
 use Rattle.surfaces.specs.Types.{noMeridians, bothFinite}
-use Rattle.surfaces.specs.Told.{Told, Ended, gives, handedOut, lineOf, sagOf, ended}
+use Rattle.surfaces.specs.Refusal.{Told, Ended, gives, handedOut, lineOf, ended}
 use Rattle.surfaces.specs.Snell.{reflected, reflectAnswer, bent, refracted, refractAnswer}
-use Rattle.surfaces.specs.Conic.{fromRadius, fromCurvature, conicSag, conicSagAnswer, gradientNormal, conicNormal, conicNormalAnswer, landedWithin, planeCrossing, firstOn, curvedCrossing, conicCrossing, normalAt, meetRule, meetAnswer}
-use Rattle.surfaces.specs.Newton.{Shape, going, arrivedAt, movedBy, passAt, passesFrom, newtonEnd, nextPass, limitedPass}
-use Rattle.surfaces.specs.Asphere.{edgeRoot, baseRoot, baseSlope, evenDepth, evenSlopeFrom, evenSlope, evenFacing, evenNormal, newEven, evenSagAnswer, evenSlopeAnswer, evenNormalAnswer, evenParaxial, evenCrossingAnswer, oddSag, oddSlope, oddNormal, newOdd, oddSagAnswer, oddNormalAnswer}
-use Rattle.surfaces.specs.Biconic.{biconicDepth, biconicSlopesAt, biconicSlopes, normalOf, biconicNormal, newBiconic, biconicSagAnswer, biconicSlopesAnswer, biconicNormalAnswer, biconicCrossingAnswer, biconicGood, biconicParaxial, circleDepth, toroidDepth, circleSlopes, toroidSlopes, toroidNormal, newToroid, toroidSagAnswer, toroidSlopesAnswer, toroidNormalAnswer, toroidCrossingAnswer}
-use Rattle.surfaces.specs.Surface.{metAs, normalBy, passRule, surfaceNormal, onwardFrom, turnRule}
-use Rattle.surfaces.specs.Demand1.{oneOf, Only, Demand1}
+use Rattle.surfaces.specs.Conic.{fromRadiusAnswer, fromCurvatureAnswer, conicSag, conicSagAnswer, gradientNormal}
+use Rattle.surfaces.specs.Conic.{conicNormal, conicNormalAnswer, landedWithin, planeCrossing, firstOn}
+use Rattle.surfaces.specs.Conic.{curvedCrossing, conicCrossing, normalAt, conicMeet, conicMeetAnswer}
+use Rattle.surfaces.specs.Newton.{Shape, going, arrivedAt, movedBy, passAt, passesFrom, newtonEnd, nextPass}
+use Rattle.surfaces.specs.Newton.{limitedPass}
+use Rattle.surfaces.specs.Sags.{edgeRoot}
+use Rattle.surfaces.specs.Asphere.{baseSag, baseSlope, evenSag, evenSlope, evenFacing, evenNormal, newEvenAnswer}
+use Rattle.surfaces.specs.Asphere.{evenSagAnswer, evenSlopeAnswer, evenNormalAnswer, evenParaxialAnswer}
+use Rattle.surfaces.specs.Asphere.{evenCrossingAnswer, oddSag, oddBaseSlope, oddSlope, oddNormal, newOddAnswer}
+use Rattle.surfaces.specs.Asphere.{oddSagAnswer, oddNormalAnswer}
+use Rattle.surfaces.specs.Biconic.{biconicSag, biconicSlopesAt, biconicSlopes, normalOf, biconicNormal}
+use Rattle.surfaces.specs.Biconic.{newBiconicAnswer, biconicSagAnswer, biconicSlopesAnswer, biconicNormalAnswer}
+use Rattle.surfaces.specs.Biconic.{biconicCrossingAnswer, biconicGood, biconicParaxialAnswer, circleSag}
+use Rattle.surfaces.specs.Biconic.{toroidSag, circleSlopes, toroidSlopes, toroidNormal, newToroidAnswer}
+use Rattle.surfaces.specs.Biconic.{toroidSagAnswer, toroidSlopesAnswer, toroidNormalAnswer, toroidCrossingAnswer}
+use Rattle.surfaces.specs.Surface.{Way, whole, passes, passBy, normalBy, passAnswer, surfaceNormal, onwardFrom}
+use Rattle.surfaces.specs.Surface.{turnAnswer}
+use Rattle.surfaces.specs.Demand1.{Only, Demand1}
 use Rattle.surfaces.specs.declared.types.Vec3.{Vec3}
 use Rattle.surfaces.specs.declared.types.Ray.{Ray}
 use Rattle.surfaces.specs.declared.types.Landing.{Landing}
@@ -24,34 +36,20 @@ use Rattle.surfaces.specs.declared.types.Meridians.{Meridians}
 use Rattle.surfaces.specs.declared.types.Coefficients.{Coefficients}
 use Rattle.surfaces.specs.declared.refusal.Line.{Line}
 use Rattle.surfaces.specs.declared.refusal.Refusal.{Refusal}
-use Rattle.surfaces.specs.declared.refusal.Refusal.the-variants.{InvalidParameter, InvalidSurface, NumericalSingularity, GeometryOutsideAperture, RayMissedSurface, RayVignetted, TotalInternalReflection, NotFinite}
+use Rattle.surfaces.specs.declared.refusal.Refusal.the-variants.{InvalidParameter, InvalidSurface}
+use Rattle.surfaces.specs.declared.refusal.Refusal.the-variants.{NumericalSingularity, GeometryOutsideAperture}
+use Rattle.surfaces.specs.declared.refusal.Refusal.the-variants.{RayMissedSurface, RayVignetted}
+use Rattle.surfaces.specs.declared.refusal.Refusal.the-variants.{TotalInternalReflection, NotFinite}
 use Rattle.surfaces.specs.declared.conic.ConicSurface.{ConicSurface}
 use Rattle.surfaces.specs.declared.biconic.BiconicSurface.{BiconicSurface}
-use Rattle.surfaces.specs.declared.surface.Family.{Family}
-use Rattle.surfaces.specs.declared.surface.Family.the-variants as family
 use Rattle.surfaces.specs.declared.surface.Kind.{Kind}
 use Rattle.surfaces.specs.declared.surface.Kind.the-variants.{Conic, Even, Biconic, Toroid}
 use Rattle.surfaces.specs.declared.surface.Surface.{Surface}
 use Rattle.surfaces.specs.declared.surface.Boundary.{Boundary}
 use Rattle.surfaces.specs.declared.surface.Boundary.the-variants.{Mirror, Media}
-use Rattle.surfaces.proofs.Choice.{either, both}
-
--- whether all numbers of a list pass a test
-abbrev pub every : (ℕ → Bool) → List ℕ → Bool
-every test [] = true
-every test (n ∷ l) = test n && every test l
-
--- what all numbers of a list pass, one of them passes
-pub each : (test : ℕ → Bool) (l : List ℕ) (n : ℕ) → every test l ≡ true → oneOf l n ≡ true → test n ≡ true
-unfolding oneOf
-each test [] n a h = absurd (false≢true h)
-each test (m ∷ l) n a h =
-    let (here, there) = both (test m) (every test l) a in
-    by (eqb n m) refl h here (λ r. each test l n there r)
-  where
-    by : (d : Bool) → eqb n m ≡ d → (d || oneOf l n) ≡ true → test m ≡ true → (oneOf l n ≡ true → test n ≡ true) → test n ≡ true
-    by true e h here next = rw (eqb-true n m e) here
-    by false e h here next = next h
+use Rattle.numbers.proofs.Choice.{either, both}
+use Rattle.numbers.specs.Arithmetic.{oneOf}
+use Rattle.numbers.proofs.Lists.{every, each}
 
 -- a line whose number passes a test
 pub record Tells (test : ℕ → Bool) (t : Line) : Type 0 where
@@ -73,10 +71,12 @@ unfolding Only
 only l x p = p .told
 
 -- an answer that goes by a test; `after`, `checked9`, `handedOut` and `accepted` are such too
-either-tells : {A : Type 0} (test : ℕ → Bool) (b : Bool) (x y : Told A) → Tells test (x .line) → Tells test (y .line) → Tells test ((if b then x else y) .line)
+either-tells : {A : Type 0} (test : ℕ → Bool) (b : Bool) (x y : Told A) → Tells test (x .line) → Tells test (y .line) →
+    Tells test ((if b then x else y) .line)
 either-tells test b x y p q = either (λ z. Tells test (z .line)) b x y p q
 
-either-ended : (test : ℕ → Bool) (b : Bool) (x y : Ended) → Tells test (x .answer .line) → Tells test (y .answer .line) → Tells test ((if b then x else y) .answer .line)
+either-ended : (test : ℕ → Bool) (b : Bool) (x y : Ended) → Tells test (x .answer .line) →
+    Tells test (y .answer .line) → Tells test ((if b then x else y) .answer .line)
 either-ended test b x y p q = either (λ z. Tells test (z .answer .line)) b x y p q
 
 reflection : (i n : Vec3) → Within (1 ∷ 4 ∷ []) (reflected i n .line)
@@ -109,7 +109,8 @@ abbrev ends : List ℕ
 ends = 1 ∷ 4 ∷ 6 ∷ 7 ∷ []
 
 -- it ends where a pass does not go on
-unless-going : (x : Told Landing) (rest : Ended) (made : ℕ) (g : Bool) → going x ≡ g → Tells (oneOf (0 ∷ ends)) (x .line) → Tells (oneOf ends) (rest .answer .line) →
+unless-going : (x : Told Landing) (rest : Ended) (made : ℕ) (g : Bool) → going x ≡ g →
+    Tells (oneOf (0 ∷ ends)) (x .line) → Tells (oneOf ends) (rest .answer .line) →
     Tells (oneOf ends) ((if g then rest else ended x made) .answer .line)
 unfolding oneOf
 unless-going x rest made true e p r = r
@@ -120,21 +121,22 @@ module _ (q : Shape) (vertex : Float) (ray : Ray) where
   unfolding passAt movedBy arrivedAt oneOf
   pass-from t = within (search (either-tells, landed) depth 12)
 
-  passes : (left made : ℕ) (t : Float) → Tells (oneOf ends) (passesFrom q vertex ray left made t .answer .line)
+  chained : (left made : ℕ) (t : Float) → Tells (oneOf ends) (passesFrom q vertex ray left made t .answer .line)
   unfolding passesFrom oneOf
-  passes zero made t = record { told = refl }
-  passes (suc left) made t = unless-going (passAt q vertex ray t) _ _ _ refl (search pass-from) (passes left (suc made) _)
+  chained zero made t = record { told = refl }
+  chained (suc left) made t =
+      unless-going (passAt q vertex ray t) _ _ _ refl (search pass-from) (chained left (suc made) _)
 
   newton : Within ends (newtonEnd q vertex ray .answer .line)
   unfolding newtonEnd oneOf
-  newton = within (search (either-ended, passes))
+  newton = within (search (either-ended, chained))
 
 edge-root : (x : Float) → Within (1 ∷ 5 ∷ []) (edgeRoot x .line)
 unfolding edgeRoot oneOf
 edge-root x = within (search either-tells)
 
 even-slope : (c k : Float) (a : Coefficients) (r : Float) → Within (1 ∷ 2 ∷ 4 ∷ 5 ∷ []) (evenSlope c k a r .line)
-unfolding evenSlope evenSlopeFrom baseRoot baseSlope oneOf
+unfolding evenSlope baseSlope oneOf
 even-slope c k a r = within (search (either-tells, edge-root) depth 8)
 
 biconic-slopes : (cx kx cy ky x y : Float) → Within (1 ∷ 4 ∷ 5 ∷ []) (biconicSlopes cx kx cy ky x y .line)
@@ -158,24 +160,23 @@ onward i n Mirror = within (search reflection)
 onward i n (Media n1 n2) = within (search refraction)
 
 -- a pass, by how the surface is met
-abbrev pub passAs : Surface → Ray → ℕ → Float → Family → Told Landing
-passAs s ray made t f = metAs f s (λ q. conicCrossing ray q) (λ q. limitedPass q (s .vertex) ray made t)
-
-by-family : (s : Surface) (ray : Ray) (made : ℕ) (t : Float) (f : Family) → Tells (oneOf (0 ∷ ends)) (passAs s ray made t f .line)
+by-way : (vertex : Float) (ray : Ray) (made : ℕ) (t : Float) (w : Way) →
+    Tells (oneOf (0 ∷ ends)) (passBy w vertex ray made t .line)
 unfolding limitedPass nextPass oneOf
-by-family s ray made t (family.Conic c k) = search crossed
-by-family s ray made t (family.Newton q) = search (either-tells, pass-from)
+by-way vertex ray made t (whole q) = search crossed
+by-way vertex ray made t (passes q) = search (either-tells, pass-from)
 
 -- where all five numbers are finite, the first and the third are
-tested : (a b c d e : Bool) (m : Meridians) → Tells (oneOf (1 ∷ 2 ∷ [])) (handedOut 2 noMeridians (λ m. a && c) (a && b && c && d && e) (gives m) .line)
+tested : (a b c d e : Bool) (m : Meridians) →
+    Tells (oneOf (1 ∷ 2 ∷ [])) (handedOut 2 noMeridians (λ m. a && c) (a && b && c && d && e) (gives m) .line)
 unfolding oneOf
 tested true true true d e m = search either-tells
 tested true true false d e m = record { told = refl }
 tested true false c d e m = record { told = refl }
 tested false b c d e m = record { told = refl }
 
-paraxial : (s : BiconicSurface) → Tells (oneOf (1 ∷ 2 ∷ [])) (biconicParaxial s .line)
-unfolding biconicParaxial biconicGood bothFinite
+paraxial : (s : BiconicSurface) → Tells (oneOf (1 ∷ 2 ∷ [])) (biconicParaxialAnswer s .line)
+unfolding biconicParaxialAnswer biconicGood bothFinite
 paraxial s = tested (finite (s .cx)) (finite (s .kx)) (finite (s .cy)) (finite (s .ky)) (finite (s .semi)) _
 
 line-of : (e : Refusal) → oneOf (2 ∷ 3 ∷ 4 ∷ 5 ∷ 6 ∷ 7 ∷ 8 ∷ 9 ∷ []) (lineOf e .number) ≡ true
@@ -189,10 +190,31 @@ line-of (RayVignetted r l) = refl
 line-of TotalInternalReflection = refl
 line-of NotFinite = refl
 
-ruleset tells = (only, either-tells, reflection, refraction, conic-normal, crossed, newton, edge-root, even-slope, biconic-slopes, toroid-slopes, normal, onward, by-family, paraxial)
+ruleset tells = (
+  only,
+  either-tells,
+  reflection,
+  refraction,
+  conic-normal,
+  crossed,
+  newton,
+  edge-root,
+  even-slope,
+  biconic-slopes,
+  toroid-slopes,
+  normal,
+  onward,
+  by-way,
+  paraxial,
+)
 
 pub demand-1 : Demand1
-unfolding reflectAnswer refractAnswer fromRadius fromCurvature conicSag conicSagAnswer conicNormalAnswer normalAt meetRule meetAnswer sagOf baseRoot newEven evenDepth evenSagAnswer evenSlopeAnswer evenNormal evenFacing evenNormalAnswer evenParaxial evenCrossingAnswer newOdd oddSag oddSagAnswer oddSlope oddNormal oddNormalAnswer normalOf newBiconic biconicDepth biconicSagAnswer biconicSlopesAnswer biconicNormal biconicNormalAnswer biconicCrossingAnswer newToroid toroidDepth circleDepth toroidSagAnswer toroidSlopesAnswer toroidNormal toroidNormalAnswer toroidCrossingAnswer passRule surfaceNormal turnRule oneOf
+unfolding reflectAnswer refractAnswer fromRadiusAnswer fromCurvatureAnswer conicSag conicSagAnswer conicNormalAnswer
+    normalAt conicMeet conicMeetAnswer baseSag newEvenAnswer evenSag evenSagAnswer evenSlopeAnswer evenNormal evenFacing
+    evenNormalAnswer evenParaxialAnswer evenCrossingAnswer newOddAnswer oddSag oddSagAnswer oddBaseSlope oddSlope
+    oddNormal oddNormalAnswer normalOf newBiconicAnswer biconicSag biconicSagAnswer biconicSlopesAnswer biconicNormal
+    biconicNormalAnswer biconicCrossingAnswer newToroidAnswer toroidSag circleSag toroidSagAnswer toroidSlopesAnswer
+    toroidNormal toroidNormalAnswer toroidCrossingAnswer passAnswer surfaceNormal turnAnswer oneOf
 demand-1 = record {
   reflect = search tells depth 10;
   snell-refract = search tells depth 10;

@@ -1,13 +1,14 @@
 -- Laws that several proofs use.
 pub mod Cases
-pub mod Choice
 pub mod Refusals
-pub mod Terms
-pub mod Again
-pub mod Shared
+mod Terms
+mod Again
+mod Depths
+mod Shared
 mod Sheet
-pub mod Passes
+mod Ways
+mod Passes
 pub mod Demand1
 pub mod Stops
-pub mod Unique
+mod Unique
 pub mod Chains

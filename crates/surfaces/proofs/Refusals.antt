@@ -5,9 +5,12 @@ use mathlib.Core.Bool.{false}
 use native.Mathlib.Omega.{arith}
 use borrow.Author.Tests.{ne-eqb}
 use lib.Dec.{eqb}
-use Rattle.surfaces.specs.Told.{lineOf}
+use Rattle.surfaces.specs.Refusal.{lineOf}
 use Rattle.surfaces.specs.declared.refusal.Refusal.{Refusal}
-use Rattle.surfaces.specs.declared.refusal.Refusal.the-variants.{InvalidParameter, InvalidSurface, NumericalSingularity, GeometryOutsideAperture, RayMissedSurface, RayVignetted, TotalInternalReflection, NotFinite}
+use Rattle.surfaces.specs.declared.refusal.Refusal.the-variants.{InvalidParameter, InvalidSurface}
+use Rattle.surfaces.specs.declared.refusal.Refusal.the-variants.{NumericalSingularity, GeometryOutsideAperture}
+use Rattle.surfaces.specs.declared.refusal.Refusal.the-variants.{RayMissedSurface, RayVignetted}
+use Rattle.surfaces.specs.declared.refusal.Refusal.the-variants.{TotalInternalReflection, NotFinite}
 
 above-one : (e : Refusal) → 2 ≤ lineOf e .number
 above-one InvalidParameter = omega arith

@@ -1,4 +1,5 @@
--- The sag at a root lies between two that need no root, so a number that is near to both is near to it. Assumes nothing.
+-- The sag at a root lies between two that need no root, so a number that is near to both is near to it. Assumes
+-- nothing.
 use mathlib.Core.Path.{_≡_, refl}
 use Prim.Native.Nat.{_+_, _-_, _*_, _^_, _≤_, _<_}
 use native.Mathlib.Nat.{le-of-lt}
@@ -11,21 +12,19 @@ use lib.Ieee.Scale.{finite}
 use lib.Ieee.Positive.{num, den, positive}
 use Rattle.numbers.specs.Arithmetic.{_+₆₄_, _-₆₄_, _*₆₄_, _/₆₄_, _<₆₄_, decimal, 0f, 1f, 4f, 1e-7, 1e-15}
 use Rattle.numbers.specs.Basic.{magnitude}
-use Rattle.numbers.specs.Sqrt.{root, AboveZero}
+use Rattle.numbers.specs.Root.{root, AboveZero}
 use Rattle.numbers.proofs.Nearest.{none-nearer}
-use Rattle.numbers.proofs.Plain.{Plain, plain, plain-finite, minus-finite, plain-magnitude, below, at-most-below, of-positive}
+use Rattle.numbers.proofs.Plain.{Plain, plain, plain-finite, minus-finite, plain-magnitude, below, at-most-below}
+use Rattle.numbers.proofs.Plain.{of-positive}
 use Rattle.numbers.proofs.Signs.{exceeding}
 use Rattle.numbers.proofs.Finite.{finite-number, finite-factor, finite-minuend, finite-summand}
 use Rattle.numbers.proofs.Mirror.{mul-neg, div-neg, sub-neg}
 use Rattle.numbers.proofs.Bounds.{exact, grows, product, total, quotient, rest, near}
 use Rattle.numbers.proofs.Exceeds.{no-lower}
 use Rattle.numbers.proofs.RootBounds.{root-bounded, square-bounded}
-use Rattle.surfaces.specs.Conic.{SagNear, conicFactor, conicEdge, conicSag, sheetTolerance, onSheet}
-use Rattle.surfaces.specs.declared.types.Vec3.{Vec3}
-use Rattle.surfaces.specs.declared.conic.ConicSurface.{ConicSurface}
-use Rattle.surfaces.proofs.Choice.{both, nor}
-
--- ---- the numbers that the test has
+use Rattle.surfaces.specs.Conic.{conicFactor, conicEdge, conicSag, sheetTolerance, nearSag}
+use Rattle.surfaces.specs.Parts.{SagNear}
+use Rattle.numbers.proofs.Choice.{both, nor}
 
 abbrev 1-1e-9 : Float
 1-1e-9 = decimal 999999999 9
@@ -73,8 +72,6 @@ unfolding lt decimal neg
 not-outside p false h = refl
 not-outside p true h = absurd (false≢true (at-most-below conicEdge zero p (omega arith) h))
 
--- ---- the law
-
 module _ (z c b sq guess : Float) where
   abbrev least : Float
   least = guess -₆₄ 1e-7
@@ -89,8 +86,10 @@ module _ (z c b sq guess : Float) where
       let high = sq *₆₄ 1+1e-9 in
       let shallow = (c *₆₄ low) /₆₄ (1f +₆₄ most) in
       let deep = (c *₆₄ high) /₆₄ (1f +₆₄ least) in
-      let above = (0f <₆₄ z) && (0f <₆₄ c) && (0f <₆₄ b) && (1e-15 *₆₄ 1e-15 <₆₄ sq) && (0f <₆₄ least) && (least <₆₄ most) in
-      let small = (high <₆₄ 1e9) && (c *₆₄ high <₆₄ 1e9) && (b *₆₄ high <₆₄ 1f) && (1f +₆₄ most <₆₄ 4f) && (deep <₆₄ 1e9) in
+      let above =
+      (0f <₆₄ z) && (0f <₆₄ c) && (0f <₆₄ b) && (1e-15 *₆₄ 1e-15 <₆₄ sq) && (0f <₆₄ least) && (least <₆₄ most) in
+      let small =
+      (high <₆₄ 1e9) && (c *₆₄ high <₆₄ 1e9) && (b *₆₄ high <₆₄ 1f) && (1f +₆₄ most <₆₄ 4f) && (deep <₆₄ 1e9) in
       let rooted = (least *₆₄ least <₆₄ 1f -₆₄ b *₆₄ high) && (1f -₆₄ b *₆₄ low <₆₄ most *₆₄ most) in
       above && small && rooted && (z -₆₄ shallow <₆₄ sheetTolerance) && (deep -₆₄ z <₆₄ sheetTolerance)
 
@@ -115,32 +114,56 @@ module _ (z c b sq guess : Float) where
       let W = square-bounded sq 1-1e-9 1+1e-9 X (near-one .0) (near-one .1) 1e9 less more high< in
       let C = of-positive c (finite-factor 1e9 (exceeding c zero c+) (W .high) depth<) in
       let B = of-positive b (finite-factor 1f (exceeding b zero b+) (W .high) product<) in
-      let L : AboveZero least = (sub-fits binary64 guess 1e-7, finite-number most (exceeding least zero least+) ordered) in
+      let L : AboveZero least =
+      (sub-fits binary64 guess 1e-7, finite-number most (exceeding least zero least+) ordered) in
       let l = of-positive least (L .1) in
-      let M : AboveZero most = (add-fits binary64 guess 1e-7, finite-summand 4f (exceeding most l ordered) unit most<) in
+      let M : AboveZero most =
+      (add-fits binary64 guess 1e-7, finite-summand 4f (exceeding most l ordered) unit most<) in
       let R = rest unit (product (exact B) W 1f product<) (most *₆₄ most) product< most² in
       let Q = root-bounded R (sub-fits binary64 1f (b *₆₄ (r *₆₄ r))) least most L M least² most² in
       let D = total (exact unit) Q 4f most< in
-      let E = total (exact unit) record { low = zero; self = l; high = Q .high; from = le-of-lt (below zero l least+); to = le-of-lt (below l (Q .high) ordered) } 4f most< in
+      let E = total
+      (exact unit)
+      record {
+        low = zero;
+        self = l;
+        high = Q .high;
+        from = le-of-lt (below zero l least+);
+        to = le-of-lt (below l (Q .high) ordered);
+      } 4f most< in
       let d = grows (1f +₆₄ 0f) (1f +₆₄ least) (E .from) one in
       let N = product (exact C) W 1e9 depth< in
       let S = quotient N D 1e9 d deep< in
       let Z = of-positive z (finite-minuend _ (exceeding z zero z+) (S .low) shallow) in
       let P = of-positive r (none-nearer sq X .above-zero .1) in
-      let n : SagNear z c b r = record { curved = plain-finite C; placed = plain-finite P; beside = rw (plain-magnitude P) (no-lower sq 1e-15 X tiny sq+); inside = not-outside (R .self) _ refl; close = near Z S _ shallow deep } in (
+      let n : SagNear z c b r =
+      record {
+        curved = plain-finite C;
+        placed = plain-finite P;
+        beside = rw (plain-magnitude P) (no-lower sq 1e-15 X tiny sq+);
+        inside = not-outside (R .self) _ refl;
+        close = near Z S _ shallow deep;
+      } in (
         n,
         record {
           curved = minus-finite C;
           placed = n .placed;
           beside = n .beside;
           inside = n .inside;
-          close = rw (mul-neg C (W .self), div-neg (N .self) (D .self) (grows (1f +₆₄ least) (1f +₆₄ root (1f -₆₄ b *₆₄ (r *₆₄ r))) (D .from) d), sub-neg Z (S .self)) (n .close);
+          close = rw (
+            mul-neg C (W .self),
+            div-neg (N .self) (D .self)
+                (grows (1f +₆₄ least) (1f +₆₄ root (1f -₆₄ b *₆₄ (r *₆₄ r))) (D .from) d),
+            sub-neg Z (S .self),
+          )
+              (n .close);
         },
       )
 
--- ---- what it says of a surface
-
-pub near-on-sheet : (s : ConicSurface) (p : Vec3) (r : Float) → (not (finite (s .conic)) || (magnitude (s .curvature) <₆₄ 1e-15)) ≡ false →
-    SagNear (p .z -₆₄ s .vertex) (s .curvature) (conicFactor (s .curvature) (s .conic)) r → onSheet s p r ≡ true
-unfolding onSheet conicSag
-near-on-sheet s p r h n = let (k, c) = nor (finite (s .conic)) (magnitude (s .curvature) <₆₄ 1e-15) h in rw (n .placed, n .curved, k, c, n .beside, n .inside, n .close)
+-- what it says of a surface
+pub near-on-sheet : (c k z r : Float) → (not (finite k) || (magnitude c <₆₄ 1e-15)) ≡ false →
+    SagNear z c (conicFactor c k) r → nearSag c k z r ≡ true
+unfolding nearSag conicSag
+near-on-sheet c k z r h n =
+    let (good, curved) = nor (finite k) (magnitude c <₆₄ 1e-15) h in
+    rw (n .placed, n .curved, good, curved, n .beside, n .inside, n .close)

@@ -1,4 +1,5 @@
--- What is left of the coefficients at i: the one that stands there and the rest, or none past the count or the end. Assumes nothing.
+-- What is left of the coefficients at i: the one that stands there and the rest, or none past the count or the end.
+-- Assumes nothing.
 use Prim.Native.Nat.{ℕ, _+_, _<_, _≤_, min}
 use mathlib.Core.Path.{_≡_}
 use mathlib.Core.Bool.{true, false, not}
@@ -7,24 +8,26 @@ use native.Mathlib.Numerals.{add-one}
 use native.Mathlib.Omega.{arith}
 use lib.IntN.{pos}
 use lib.ListN.{length, take, drop, getD, length-take, drop-of-length-le}
-use lib.Seq.{drop-cons, getD-take}
+use lib.Seq.{getD-take}
 use lib.Ieee.{Float, nan, binary64, ofInt}
 use lib.Ieee.Scale.{finite}
 use Rattle.numbers.specs.Arithmetic.{_+₆₄_, _*₆₄_, 2f}
 use Rattle.surfaces.specs.Types.{everyFinite}
 use Rattle.surfaces.specs.Asphere.{powerSumFrom, slopeSumFrom, firstOr0}
-use Rattle.surfaces.proofs.Choice.{goes-on, ends-there}
+use Rattle.numbers.proofs.Choice.{goes-on, ends-there}
+use Rattle.numbers.proofs.Lists.{next-element}
 
 module _ (a : List Float) (n i : ℕ) where
   here : i < n → i < length a → drop i (take n a) ≡ getD a i nan ∷ drop (i + 1) (take n a)
   here h k =
       let w : i < length (take n a) = simp length-take (omega arith) in
-      rw (drop-cons (take n a) i nan, getD-take n a i nan, add-one)
+      rw (next-element (take n a) i nan, getD-take n a i nan)
 
   past : min n (length a) ≤ i → drop i (take n a) ≡ []
   past h = drop-of-length-le (take n a) {i = i} (simp length-take h)
 
-  pub finite-turn : i < n → i < length a → not (finite (getD a i nan)) ≡ false → everyFinite (drop i (take n a)) ≡ everyFinite (drop (i + 1) (take n a))
+  pub finite-turn : i < n → i < length a → not (finite (getD a i nan)) ≡ false → everyFinite (drop i (take n a)) ≡
+      everyFinite (drop (i + 1) (take n a))
   unfolding everyFinite
   finite-turn h k e = rw (here h k) (goes-on (finite (getD a i nan)) _ e)
 
@@ -37,7 +40,8 @@ module _ (a : List Float) (n i : ℕ) where
   finite-end h = rw (past h)
 
   module _ (sum p r2 : Float) where
-    pub power-turn : i < n → i < length a → powerSumFrom sum (drop i (take n a)) p r2 ≡ powerSumFrom (sum +₆₄ getD a i nan *₆₄ p) (drop (i + 1) (take n a)) (p *₆₄ r2) r2
+    pub power-turn : i < n → i < length a → powerSumFrom sum (drop i (take n a)) p r2 ≡
+        powerSumFrom (sum +₆₄ getD a i nan *₆₄ p) (drop (i + 1) (take n a)) (p *₆₄ r2) r2
     unfolding powerSumFrom
     power-turn h k = rw (here h k)
 
@@ -46,7 +50,9 @@ module _ (a : List Float) (n i : ℕ) where
     power-end h = rw (past h)
 
     module _ (e : Float) where
-      pub slope-turn : i < n → i < length a → slopeSumFrom i sum (drop i (take n a)) e p r2 ≡ slopeSumFrom (i + 1) (sum +₆₄ (2f *₆₄ ofInt binary64 (pos i) +₆₄ e) *₆₄ getD a i nan *₆₄ p) (drop (i + 1) (take n a)) e (p *₆₄ r2) r2
+      pub slope-turn : i < n → i < length a → slopeSumFrom i sum (drop i (take n a)) e p r2 ≡
+          slopeSumFrom (i + 1) (sum +₆₄ (2f *₆₄ ofInt binary64 (pos i) +₆₄ e) *₆₄ getD a i nan *₆₄ p)
+          (drop (i + 1) (take n a)) e (p *₆₄ r2) r2
       unfolding slopeSumFrom
       slope-turn h k = rw (here h k, add-one)
 

@@ -2,14 +2,19 @@
 use mathlib.Core.Path.{_≡_, refl, sym, ap, _∙_}
 use lib.Dec.{eqb}
 use Rattle.numbers.specs.Arithmetic.{if_then_else_}
-use Rattle.surfaces.specs.Told.{Told, done, lineOf, verdictLine, toldNumber, toldSag, toldPair, toldDirection, toldCrossing, toldMeet, toldConic, toldEven, toldOdd, toldBiconic, toldToroid, toldPassed, toldTurned, OneToOne, ToldOneToOne}
+use Rattle.surfaces.specs.Refusal.{Told, done, lineOf, acceptanceLine, toldNumber, toldSag, toldPair}
+use Rattle.surfaces.specs.Refusal.{toldDirection, toldCrossing, toldMeet, toldConic, toldEven, toldOdd}
+use Rattle.surfaces.specs.Refusal.{toldBiconic, toldToroid, toldPassed, toldTurned, OneToOne, ToldOneToOne}
 use Rattle.surfaces.specs.Newton.{going}
 use Rattle.surfaces.specs.declared.types.Landing.{Landing}
 use Rattle.surfaces.specs.declared.refusal.Refusal.{Refusal}
-use Rattle.surfaces.specs.declared.refusal.Refusal.the-variants.{InvalidParameter, InvalidSurface, NumericalSingularity, GeometryOutsideAperture, RayMissedSurface, RayVignetted, TotalInternalReflection, NotFinite}
+use Rattle.surfaces.specs.declared.refusal.Refusal.the-variants.{InvalidParameter, InvalidSurface}
+use Rattle.surfaces.specs.declared.refusal.Refusal.the-variants.{NumericalSingularity, GeometryOutsideAperture}
+use Rattle.surfaces.specs.declared.refusal.Refusal.the-variants.{RayMissedSurface, RayVignetted}
+use Rattle.surfaces.specs.declared.refusal.Refusal.the-variants.{TotalInternalReflection, NotFinite}
 use Rattle.surfaces.specs.declared.refusal.Line.{Line}
-use Rattle.surfaces.specs.declared.refusal.Verdict.{Verdict}
-use Rattle.surfaces.specs.declared.refusal.Verdict.the-variants as verdict
+use Rattle.surfaces.specs.declared.refusal.Acceptance.{Acceptance}
+use Rattle.surfaces.specs.declared.refusal.Acceptance.the-variants as acceptance
 use Rattle.surfaces.specs.declared.refusal.Number.the-variants as number
 use Rattle.surfaces.specs.declared.refusal.Sag.the-variants as sag
 use Rattle.surfaces.specs.declared.refusal.Pair.the-variants as pair
@@ -19,8 +24,8 @@ use Rattle.surfaces.specs.declared.conic.NewConic.the-variants as new-co
 use Rattle.surfaces.specs.declared.conic.Meet.the-variants as meet
 use Rattle.surfaces.specs.declared.biconic.NewBiconic.the-variants as new-biconic
 use Rattle.surfaces.specs.declared.biconic.NewToroid.the-variants as new-toroid
-use Rattle.surfaces.specs.declared.surface.Passed.{Passed}
-use Rattle.surfaces.specs.declared.surface.Passed.the-variants as passed
+use Rattle.surfaces.specs.declared.newton.Passed.{Passed}
+use Rattle.surfaces.specs.declared.newton.Passed.the-variants as passed
 use Rattle.surfaces.specs.declared.surface.Turned.the-variants as turned
 use Rattle.surfaces.proofs.Refusals.{never-done, never-going}
 
@@ -53,36 +58,51 @@ same NotFinite = refl
 abbrev answerOf : {A E : Type 0} → (A → E) → (Refusal → E) → Told A → E
 answerOf given refused t = if done t then given (t .value) else refused (refusalOf (t .line))
 
-verdictOf : Line → Verdict
-verdictOf l = if eqb (l .number) 1 then verdict.Accepted else verdict.Refused (refusalOf l)
+acceptanceOf : Line → Acceptance
+acceptanceOf l = if eqb (l .number) 1 then acceptance.Given else acceptance.Refused (refusalOf l)
 
-same-verdict : (v : Verdict) → verdictOf (verdictLine v) ≡ v
-unfolding verdictOf
-same-verdict verdict.Accepted = refl
-same-verdict (verdict.Refused e) = rw (never-done, same)
+same-acceptance : (v : Acceptance) → acceptanceOf (acceptanceLine v) ≡ v
+unfolding acceptanceOf
+same-acceptance acceptance.Given = refl
+same-acceptance (acceptance.Refused e) = rw (never-done, same)
 
 passedOf : Told Landing → Passed
-passedOf t = if going t then passed.Again (t .value .t) else answerOf passed.Hit passed.Refused t
+passedOf t = if going t then passed.Again (t .value .t) else answerOf passed.Given passed.Refused t
 
 same-passed : (x : Passed) → passedOf (toldPassed x) ≡ x
 unfolding passedOf
 same-passed (passed.Again t) = refl
-same-passed (passed.Hit l) = refl
+same-passed (passed.Given l) = refl
 same-passed (passed.Refused e) = rw (never-going, never-done, same)
 
 pub told-one-to-one : ToldOneToOne
 told-one-to-one = record {
-  number = back-again toldNumber (answerOf number.Is number.Refused) (elim [ number.Is x ↦ refl | number.Refused e ↦ rw (never-done, same) ]);
-  sag = back-again toldSag (answerOf sag.At sag.Refused) (elim [ sag.At z ↦ refl | sag.Refused e ↦ rw (never-done, same) ]);
-  pair = back-again toldPair (answerOf pair.Both pair.Refused) (elim [ pair.Both m ↦ refl | pair.Refused e ↦ rw (never-done, same) ]);
-  direction = back-again toldDirection (answerOf direction.To direction.Refused) (elim [ direction.To v ↦ refl | direction.Refused e ↦ rw (never-done, same) ]);
-  crossing = back-again toldCrossing (answerOf crossing.At crossing.Refused) (elim [ crossing.At l ↦ refl | crossing.Refused e ↦ rw (never-done, same) ]);
-  meet = back-again toldMeet (answerOf meet.Hit meet.Refused) (elim [ meet.Hit h ↦ refl | meet.Refused e ↦ rw (never-done, same) ]);
-  conic = back-again toldConic (answerOf new-conic.Made new-conic.Refused) (elim [ new-conic.Made s ↦ refl | new-conic.Refused e ↦ rw (never-done, same) ]);
-  even = back-again toldEven (λ t. record { verdict = verdictOf (t .line); surface = t .value }) (λ n. rw (same-verdict (n .verdict)));
-  odd = back-again toldOdd (λ t. record { verdict = verdictOf (t .line); surface = t .value }) (λ n. rw (same-verdict (n .verdict)));
-  biconic = back-again toldBiconic (answerOf new-biconic.Made new-biconic.Refused) (elim [ new-biconic.Made s ↦ refl | new-biconic.Refused e ↦ rw (never-done, same) ]);
-  toroid = back-again toldToroid (answerOf new-toroid.Made new-toroid.Refused) (elim [ new-toroid.Made s ↦ refl | new-toroid.Refused e ↦ rw (never-done, same) ]);
+  number = back-again toldNumber (answerOf number.Given number.Refused)
+      (elim [ number.Given x ↦ refl | number.Refused e ↦ rw (never-done, same) ]);
+  sag = back-again toldSag (answerOf sag.Given sag.Refused)
+      (elim [ sag.Given z ↦ refl | sag.Refused e ↦ rw (never-done, same) ]);
+  pair = back-again toldPair (answerOf pair.Given pair.Refused)
+      (elim [ pair.Given m ↦ refl | pair.Refused e ↦ rw (never-done, same) ]);
+  direction =
+      back-again toldDirection (answerOf direction.Given direction.Refused)
+      (elim [ direction.Given v ↦ refl | direction.Refused e ↦ rw (never-done, same) ]);
+  crossing =
+      back-again toldCrossing (answerOf crossing.Given crossing.Refused)
+      (elim [ crossing.Given l ↦ refl | crossing.Refused e ↦ rw (never-done, same) ]);
+  meet = back-again toldMeet (answerOf meet.Given meet.Refused)
+      (elim [ meet.Given h ↦ refl | meet.Refused e ↦ rw (never-done, same) ]);
+  conic = back-again toldConic (answerOf new-conic.Given new-conic.Refused)
+      (elim [ new-conic.Given s ↦ refl | new-conic.Refused e ↦ rw (never-done, same) ]);
+  even = back-again toldEven (λ t. record { acceptance = acceptanceOf (t .line); surface = t .value })
+      (λ n. rw (same-acceptance (n .acceptance)));
+  odd = back-again toldOdd (λ t. record { acceptance = acceptanceOf (t .line); surface = t .value })
+      (λ n. rw (same-acceptance (n .acceptance)));
+  biconic =
+      back-again toldBiconic (answerOf new-biconic.Given new-biconic.Refused)
+      (elim [ new-biconic.Given s ↦ refl | new-biconic.Refused e ↦ rw (never-done, same) ]);
+  toroid = back-again toldToroid (answerOf new-toroid.Given new-toroid.Refused)
+      (elim [ new-toroid.Given s ↦ refl | new-toroid.Refused e ↦ rw (never-done, same) ]);
   passed = back-again toldPassed passedOf same-passed;
-  turned = back-again toldTurned (answerOf turned.To turned.Refused) (elim [ turned.To l ↦ refl | turned.Refused e ↦ rw (never-done, same) ]);
+  turned = back-again toldTurned (answerOf turned.Given turned.Refused)
+      (elim [ turned.Given l ↦ refl | turned.Refused e ↦ rw (never-done, same) ]);
 }

@@ -1,15 +1,18 @@
--- Even and odd aspheres. Definitions only.
+-- Even and odd aspheres: z(r) = c r² / (1 + √(1 - (1 + k) c² r²)) + Σ aᵢ r²ⁱ, and for the odd one + Σ bᵢ r²ⁱ⁻¹.
+-- Definitions only.
 use Prim.Native.Nat.{ℕ, suc}
 use mathlib.Core.Bool.{Bool, false, not, _&&_, _||_}
 use mathlib.Core.List.{List, [], _∷_}
 use lib.IntN.{pos}
 use lib.Ieee.{Float, binary64, neg, ofInt}
 use lib.Ieee.Scale.{finite}
-use Rattle.numbers.specs.Arithmetic.{_+₆₄_, _-₆₄_, _*₆₄_, _/₆₄_, _<₆₄_, _≤₆₄_, if_then_else_, 0f, 1f, 2f, 1e-12, 1e-14, 1e-15}
+use Rattle.numbers.specs.Arithmetic.{_+₆₄_, _-₆₄_, _*₆₄_, _/₆₄_, _<₆₄_, _≤₆₄_, if_then_else_, 0f, 1f, 2f, 1e-14, 1e-15}
 use Rattle.numbers.specs.Basic.{magnitude, larger}
-use Rattle.numbers.specs.Sqrt.{root}
-use Rattle.surfaces.specs.Types.{vec, zeros, backwards, distance, allFinite, meridians, noMeridians, terms, coefficientsGood}
-use Rattle.surfaces.specs.Told.{handedOut, accepted, Told, Depths, gives, after, noNumber, noDirection, noEven, noOdd, depths, noDepths, noDepth, sagOf}
+use Rattle.numbers.specs.Root.{root}
+use Rattle.surfaces.specs.Types.{vec, zeros, backwards, distance, allFinite, meridians, noMeridians, terms}
+use Rattle.surfaces.specs.Types.{coefficientsGood}
+use Rattle.surfaces.specs.Refusal.{handedOut, accepted, Told, gives, after, noNumber, noDirection, noEven, noOdd}
+use Rattle.surfaces.specs.Sags.{edgeRoot}
 use Rattle.surfaces.specs.Newton.{newtonAnswer, Shape}
 use Rattle.surfaces.specs.declared.types.Vec3.{Vec3}
 use Rattle.surfaces.specs.declared.types.Ray.{Ray}
@@ -37,47 +40,35 @@ slopeSumFrom i sum (a ∷ l) e p r2 =
 abbrev pub slopeSum : List Float → Float → Float → Float → Float
 slopeSum l e p r2 = slopeSumFrom 0 0f l e p r2
 
--- how far below 0 a radicand may lie in every sag but the conic's
-abbrev pub radicandTolerance : Float
-radicandTolerance = 1e-12
-
--- the root in such a sag: a radicand below 0 that is not refused counts as 0
-unfoldable pub edgeRoot : Float → Told Float
-edgeRoot radicand = if radicand <₆₄ neg radicandTolerance then noNumber 5 else gives (root (larger radicand 0f))
-
--- the conic base of an asphere: its root, which is 1 where the base is flat, and from that its sag and slope
-unfoldable pub baseRoot : Float → Float → Float → Told Float
-baseRoot c k r2 =
-    if magnitude c <₆₄ 1e-15 then gives 1f else
-    edgeRoot (1f -₆₄ (1f +₆₄ k) *₆₄ c *₆₄ c *₆₄ r2)
-
-unfoldable pub baseSag : Float → Float → Float → Float
-baseSag c r2 s = if magnitude c <₆₄ 1e-15 then 0f else (c *₆₄ r2) /₆₄ (1f +₆₄ s)
-
-unfoldable pub baseSlope : Float → Float → Float → Told Float
-baseSlope c r s =
+-- the conic base of an asphere, from r²: c r² / (1 + √(1 - (1 + k) c² r²)), and 0 where it is flat
+unfoldable pub baseSag : Float → Float → Float → Told Float
+baseSag c k r2 =
     if magnitude c <₆₄ 1e-15 then gives 0f else
+    after 0f (edgeRoot (1f -₆₄ (1f +₆₄ k) *₆₄ c *₆₄ c *₆₄ r2)) (λ s.
+    gives ((c *₆₄ r2) /₆₄ (1f +₆₄ s)))
+
+-- its slope at r
+unfoldable pub baseSlope : Float → Float → Float → Told Float
+baseSlope c k r =
+    if magnitude c <₆₄ 1e-15 then gives 0f else
+    after 0f (edgeRoot (1f -₆₄ (1f +₆₄ k) *₆₄ c *₆₄ c *₆₄ (r *₆₄ r))) (λ s.
     if s ≤₆₄ 1e-15 then noNumber 4 else
-    gives ((c *₆₄ r) /₆₄ s)
+    gives ((c *₆₄ r) /₆₄ s))
 
 -- EvenAsphere::sag
-unfoldable pub evenDepth : Float → Float → Coefficients → Float → Told Depths
-evenDepth c k a r =
+unfoldable pub evenSag : Float → Float → Coefficients → Float → Told Float
+evenSag c k a r =
     let r2 = r *₆₄ r in
-    if not (finite r) || (r <₆₄ 0f) then noDepth 2 else
-    after noDepths (baseRoot c k r2) (λ s.
-    gives (depths (baseSag c r2 s +₆₄ powerSum (terms a) r2 r2) s r 0f))
-
-unfoldable pub evenSlopeFrom : Float → Coefficients → Float → Float → Told Float
-evenSlopeFrom c a r s =
-    after 0f (baseSlope c r s) (λ d.
-    gives (d +₆₄ slopeSum (terms a) 2f r (r *₆₄ r)))
+    if not (finite r) || (r <₆₄ 0f) then noNumber 2 else
+    after 0f (baseSag c k r2) (λ base.
+    gives (base +₆₄ powerSum (terms a) r2 r2))
 
 -- EvenAsphere::radial_derivative
 unfoldable pub evenSlope : Float → Float → Coefficients → Float → Told Float
 evenSlope c k a r =
     if not (finite r) || (r <₆₄ 0f) then noNumber 2 else
-    after 0f (baseRoot c k (r *₆₄ r)) (evenSlopeFrom c a r)
+    after 0f (baseSlope c k r) (λ base.
+    gives (base +₆₄ slopeSum (terms a) 2f r (r *₆₄ r)))
 
 -- a radial slope in x and y, and what it is near the axis
 unfoldable pub radialSlopes : Meridians → Float → Float → Float → Float → Meridians
@@ -86,10 +77,6 @@ radialSlopes near d x y r = if 1e-14 <₆₄ r then meridians (d *₆₄ (x /₆
 -- the slopes of EvenAsphere::intersect_ray
 unfoldable pub evenSlopes : Float → Float → Coefficients → Float → Float → Float → Told Meridians
 evenSlopes c k a x y r = after noMeridians (evenSlope c k a r) (λ d. gives (radialSlopes noMeridians d x y r))
-
--- the same, given the base's root at r
-unfoldable pub evenSlopesFrom : Float → Coefficients → Float → Float → Float → Float → Told Meridians
-evenSlopesFrom c a x y r s = after noMeridians (evenSlopeFrom c a r s) (λ d. gives (radialSlopes noMeridians d x y r))
 
 -- a surface with these slopes: the length of (slopes, -1), and the unit normal towards -z
 unfoldable pub lengthOf : Float → Float → Float
@@ -115,7 +102,7 @@ evenNormal c k a x y =
 
 abbrev pub evenShape : Float → Float → Coefficients → Float → Shape
 evenShape c k a semi = record {
-  sag = λ r p. evenDepth c k a r;
+  sag = λ r p. evenSag c k a r;
   slopes = λ r p. evenSlopes c k a (p .x) (p .y) r;
   semi = semi;
   checksLast = false;
@@ -125,47 +112,58 @@ evenShape c k a semi = record {
 unfoldable pub evenGood : EvenAsphere → Bool
 evenGood s = finite (s .curvature) && finite (s .conic) && finite (s .semi) && coefficientsGood (s .coefficients)
 
-unfoldable pub newEven : Float → Float → Coefficients → Float → Told EvenAsphere
-newEven c k a semi =
+unfoldable pub newEvenAnswer : Float → Float → Coefficients → Float → Told EvenAsphere
+newEvenAnswer c k a semi =
     let s : EvenAsphere = record { curvature = c; conic = k; semi = semi; coefficients = a } in
     accepted noEven (evenGood s) semi s
 
 unfoldable pub evenSagAnswer : EvenAsphere → Float → Told Float
-evenSagAnswer s r = handedOut 2 0f finite (finite r && evenGood s) (sagOf (evenDepth (s .curvature) (s .conic) (s .coefficients) r))
+evenSagAnswer s r =
+    handedOut 2 0f finite (finite r && evenGood s) (evenSag (s .curvature) (s .conic) (s .coefficients) r)
 
 unfoldable pub evenSlopeAnswer : EvenAsphere → Float → Told Float
-evenSlopeAnswer s r = handedOut 2 0f finite (finite r && evenGood s) (evenSlope (s .curvature) (s .conic) (s .coefficients) r)
+evenSlopeAnswer s r =
+    handedOut 2 0f finite (finite r && evenGood s) (evenSlope (s .curvature) (s .conic) (s .coefficients) r)
 
 unfoldable pub evenNormalAnswer : EvenAsphere → Float → Float → Told Vec3
-evenNormalAnswer s x y = handedOut 2 zeros allFinite (finite x && finite y && evenGood s) (evenNormal (s .curvature) (s .conic) (s .coefficients) x y)
+evenNormalAnswer s x y =
+    handedOut 2 zeros allFinite (finite x && finite y && evenGood s)
+    (evenNormal (s .curvature) (s .conic) (s .coefficients) x y)
 
 -- the first coefficient, 0 where there is none
 abbrev pub firstOr0 : List Float → Float
 firstOr0 [] = 0f
 firstOr0 (a ∷ l) = a
 
-unfoldable pub evenParaxial : EvenAsphere → Told Float
-evenParaxial s = handedOut 2 0f finite (evenGood s) (gives (s .curvature +₆₄ 2f *₆₄ firstOr0 (terms (s .coefficients))))
+unfoldable pub evenParaxialAnswer : EvenAsphere → Told Float
+evenParaxialAnswer s =
+    handedOut 2 0f finite (evenGood s) (gives (s .curvature +₆₄ 2f *₆₄ firstOr0 (terms (s .coefficients))))
 
 unfoldable pub evenCrossingAnswer : EvenAsphere → Ray → Float → Told Landing
-evenCrossingAnswer s ray vertex = newtonAnswer (evenGood s) (evenShape (s .curvature) (s .conic) (s .coefficients) (s .semi)) ray vertex
+evenCrossingAnswer s ray vertex =
+    newtonAnswer (evenGood s) (evenShape (s .curvature) (s .conic) (s .coefficients) (s .semi)) ray vertex
 
 -- OddAsphere::sag
 unfoldable pub oddSag : OddAsphere → Float → Told Float
 oddSag s r =
     let r2 = r *₆₄ r in
     if not (finite r) || (r <₆₄ 0f) then noNumber 2 else
-    after 0f (baseRoot (s .curvature) (s .conic) r2) (λ t.
-    gives (baseSag (s .curvature) r2 t +₆₄ powerSum (terms (s .even)) r2 r2 +₆₄ powerSum (terms (s .odd)) r r2))
+    after 0f (baseSag (s .curvature) (s .conic) r2) (λ base.
+    gives (base +₆₄ powerSum (terms (s .even)) r2 r2 +₆₄ powerSum (terms (s .odd)) r r2))
 
-unfoldable pub oddBaseSlope : Float → Float → Float → Float
-oddBaseSlope c r s = if magnitude c <₆₄ 1e-15 then 0f else (c *₆₄ r) /₆₄ larger s 1e-15
+-- the base's slope in OddAsphere::normal, whose root is at least 1e-15
+unfoldable pub oddBaseSlope : Float → Float → Float → Told Float
+oddBaseSlope c k r =
+    if magnitude c <₆₄ 1e-15 then gives 0f else
+    after 0f (edgeRoot (1f -₆₄ (1f +₆₄ k) *₆₄ c *₆₄ c *₆₄ (r *₆₄ r))) (λ s.
+    gives ((c *₆₄ r) /₆₄ larger s 1e-15))
 
+-- the slope in OddAsphere::normal
 unfoldable pub oddSlope : OddAsphere → Float → Told Float
 oddSlope s r =
     let r2 = r *₆₄ r in
-    after 0f (baseRoot (s .curvature) (s .conic) r2) (λ t.
-    gives (oddBaseSlope (s .curvature) r t +₆₄ slopeSum (terms (s .even)) 2f r r2 +₆₄ slopeSum (terms (s .odd)) 1f 1f r2))
+    after 0f (oddBaseSlope (s .curvature) (s .conic) r) (λ base.
+    gives (base +₆₄ slopeSum (terms (s .even)) 2f r r2 +₆₄ slopeSum (terms (s .odd)) 1f 1f r2))
 
 -- OddAsphere::normal; near the axis the slope counts as along x
 unfoldable pub oddNormal : OddAsphere → Float → Float → Told Vec3
@@ -177,10 +175,12 @@ oddNormal s x y =
     gives (facingOf (m .x) (m .y) (lengthOf (m .x) (m .y))))
 
 unfoldable pub oddGood : OddAsphere → Bool
-oddGood s = finite (s .curvature) && finite (s .conic) && finite (s .semi) && coefficientsGood (s .even) && coefficientsGood (s .odd)
+oddGood s =
+    finite (s .curvature) && finite (s .conic) && finite (s .semi) && coefficientsGood (s .even) &&
+    coefficientsGood (s .odd)
 
-unfoldable pub newOdd : Float → Float → Coefficients → Coefficients → Float → Told OddAsphere
-newOdd c k even odd semi =
+unfoldable pub newOddAnswer : Float → Float → Coefficients → Coefficients → Float → Told OddAsphere
+newOddAnswer c k even odd semi =
     let s : OddAsphere = record { curvature = c; conic = k; semi = semi; even = even; odd = odd } in
     accepted noOdd (oddGood s) semi s
 

@@ -4,12 +4,13 @@ use lib.Ieee.{Float}
 use lib.Ieee.Scale.{finite}
 use Rattle.numbers.specs.Arithmetic.{_+₆₄_, _-₆₄_, _*₆₄_, _/₆₄_, _<₆₄_, _≤₆₄_, if_then_else_, 0f, 1f, 2f, 1e-14, 1e-15}
 use Rattle.numbers.specs.Basic.{magnitude, larger}
-use Rattle.numbers.specs.Sqrt.{root}
-use Rattle.surfaces.specs.Types.{zeros, rootAgain, allFinite, meridians, noMeridians, bothFinite}
-use Rattle.surfaces.specs.Told.{handedOut, accepted, Told, Depths, gives, after, noPair, noBiconic, noToroid, depths, noDepths, noDepth, sagOf}
+use Rattle.numbers.specs.Root.{root}
+use Rattle.surfaces.specs.Types.{zeros, allFinite, meridians, noMeridians, bothFinite}
+use Rattle.surfaces.specs.Refusal.{handedOut, accepted, Told, gives, after, noNumber, noPair, noBiconic, noToroid}
 use Rattle.surfaces.specs.Conic.{signOf}
 use Rattle.surfaces.specs.Newton.{newtonAnswer, Shape}
-use Rattle.surfaces.specs.Asphere.{edgeRoot, facingOf, lengthOf}
+use Rattle.surfaces.specs.Sags.{edgeRoot}
+use Rattle.surfaces.specs.Asphere.{facingOf, lengthOf}
 use Rattle.surfaces.specs.declared.types.Vec3.{Vec3}
 use Rattle.surfaces.specs.declared.types.Ray.{Ray}
 use Rattle.surfaces.specs.declared.types.Landing.{Landing}
@@ -25,12 +26,11 @@ biconicRadicand cx kx cy ky x y =
     1f -₆₄ (1f +₆₄ kx) *₆₄ cx *₆₄ cx *₆₄ x *₆₄ x -₆₄ (1f +₆₄ ky) *₆₄ cy *₆₄ cy *₆₄ y *₆₄ y
 
 -- BiconicSurface::sag
-unfoldable pub biconicDepth : Float → Float → Float → Float → Float → Float → Told Depths
-biconicDepth cx kx cy ky x y =
-    let num = numeratorOf cx cy x y in
-    if not (finite x && finite y) then noDepth 2 else
-    after noDepths (edgeRoot (biconicRadicand cx kx cy ky x y)) (λ s.
-    gives (depths (num /₆₄ (1f +₆₄ s)) s num 0f))
+unfoldable pub biconicSag : Float → Float → Float → Float → Float → Float → Told Float
+biconicSag cx kx cy ky x y =
+    if not (finite x && finite y) then noNumber 2 else
+    after 0f (edgeRoot (biconicRadicand cx kx cy ky x y)) (λ s.
+    gives (numeratorOf cx cy x y /₆₄ (1f +₆₄ s)))
 
 unfoldable pub onAxis : Float → Float → Bool
 onAxis x y = (magnitude x <₆₄ 1e-15) && (magnitude y <₆₄ 1e-15)
@@ -51,13 +51,8 @@ biconicSlopesAt cx kx cy ky x y num s =
 unfoldable pub biconicSlopes : Float → Float → Float → Float → Float → Float → Told Meridians
 biconicSlopes cx kx cy ky x y =
     if onAxis x y then gives noMeridians else
-    after noMeridians (edgeRoot (biconicRadicand cx kx cy ky x y)) (biconicSlopesAt cx kx cy ky x y (numeratorOf cx cy x y))
-
--- the same, given the sag's numerator and root
-unfoldable pub biconicSlopesFrom : Float → Float → Float → Float → Float → Float → Float → Float → Told Meridians
-biconicSlopesFrom cx kx cy ky x y num s =
-    if onAxis x y then gives noMeridians else
-    biconicSlopesAt cx kx cy ky x y num s
+    after noMeridians (edgeRoot (biconicRadicand cx kx cy ky x y))
+    (biconicSlopesAt cx kx cy ky x y (numeratorOf cx cy x y))
 
 -- the unit normal of slopes, without a test of its own
 unfoldable pub normalOf : Told Meridians → Told Vec3
@@ -69,7 +64,7 @@ biconicNormal cx kx cy ky x y = normalOf (biconicSlopes cx kx cy ky x y)
 
 abbrev pub biconicShape : Float → Float → Float → Float → Float → Shape
 biconicShape cx kx cy ky semi = record {
-  sag = λ r p. biconicDepth cx kx cy ky (p .x) (p .y);
+  sag = λ r p. biconicSag cx kx cy ky (p .x) (p .y);
   slopes = λ r p. biconicSlopes cx kx cy ky (p .x) (p .y);
   semi = semi;
   checksLast = true;
@@ -79,25 +74,31 @@ biconicShape cx kx cy ky semi = record {
 unfoldable pub biconicGood : BiconicSurface → Bool
 biconicGood s = finite (s .cx) && finite (s .kx) && finite (s .cy) && finite (s .ky) && finite (s .semi)
 
-unfoldable pub newBiconic : Float → Float → Float → Float → Float → Told BiconicSurface
-newBiconic cx kx cy ky semi =
+unfoldable pub newBiconicAnswer : Float → Float → Float → Float → Float → Told BiconicSurface
+newBiconicAnswer cx kx cy ky semi =
     let s : BiconicSurface = record { cx = cx; kx = kx; cy = cy; ky = ky; semi = semi } in
     accepted noBiconic (biconicGood s) semi s
 
 unfoldable pub biconicSagAnswer : BiconicSurface → Float → Float → Told Float
-biconicSagAnswer s x y = handedOut 2 0f finite (finite x && finite y && biconicGood s) (sagOf (biconicDepth (s .cx) (s .kx) (s .cy) (s .ky) x y))
+biconicSagAnswer s x y =
+    handedOut 2 0f finite (finite x && finite y && biconicGood s) (biconicSag (s .cx) (s .kx) (s .cy) (s .ky) x y)
 
 unfoldable pub biconicSlopesAnswer : BiconicSurface → Float → Float → Told Meridians
-biconicSlopesAnswer s x y = handedOut 2 noMeridians bothFinite (finite x && finite y && biconicGood s) (biconicSlopes (s .cx) (s .kx) (s .cy) (s .ky) x y)
+biconicSlopesAnswer s x y =
+    handedOut 2 noMeridians bothFinite (finite x && finite y && biconicGood s)
+    (biconicSlopes (s .cx) (s .kx) (s .cy) (s .ky) x y)
 
 unfoldable pub biconicNormalAnswer : BiconicSurface → Float → Float → Told Vec3
-biconicNormalAnswer s x y = handedOut 2 zeros allFinite (finite x && finite y && biconicGood s) (biconicNormal (s .cx) (s .kx) (s .cy) (s .ky) x y)
+biconicNormalAnswer s x y =
+    handedOut 2 zeros allFinite (finite x && finite y && biconicGood s)
+    (biconicNormal (s .cx) (s .kx) (s .cy) (s .ky) x y)
 
 unfoldable pub biconicCrossingAnswer : BiconicSurface → Ray → Float → Told Landing
-biconicCrossingAnswer s ray vertex = newtonAnswer (biconicGood s) (biconicShape (s .cx) (s .kx) (s .cy) (s .ky) (s .semi)) ray vertex
+biconicCrossingAnswer s ray vertex =
+    newtonAnswer (biconicGood s) (biconicShape (s .cx) (s .kx) (s .cy) (s .ky) (s .semi)) ray vertex
 
-unfoldable pub biconicParaxial : BiconicSurface → Told Meridians
-biconicParaxial s = handedOut 2 noMeridians bothFinite (biconicGood s) (gives (meridians (s .cx) (s .cy)))
+unfoldable pub biconicParaxialAnswer : BiconicSurface → Told Meridians
+biconicParaxialAnswer s = handedOut 2 noMeridians bothFinite (biconicGood s) (gives (meridians (s .cx) (s .cy)))
 
 -- the toroid's base curve in the y-z plane: its radicand, and its sag from the root s
 unfoldable pub baseCurveRadicand : Float → Float → Float → Float
@@ -107,16 +108,16 @@ unfoldable pub baseCurveSag : Float → Float → Float → Float
 baseCurveSag cy y s = (cy *₆₄ (y *₆₄ y)) /₆₄ (1f +₆₄ s)
 
 -- the circle rolled about it, whose radius at y is `term`
-unfoldable pub circleDepth : Float → Float → Float → Float → Told Depths
-circleDepth rx x term base =
-    after noDepths (edgeRoot (term *₆₄ term -₆₄ x *₆₄ x)) (λ s.
-    gives (depths (rx -₆₄ signOf rx *₆₄ s) s term base))
+unfoldable pub circleSag : Float → Float → Float → Told Float
+circleSag rx x term =
+    after 0f (edgeRoot (term *₆₄ term -₆₄ x *₆₄ x)) (λ s.
+    gives (rx -₆₄ signOf rx *₆₄ s))
 
 -- ToroidalSurface::sag, which has no test of x and y
-unfoldable pub toroidDepth : Float → Float → Float → Float → Float → Told Depths
-toroidDepth rx cy ky x y =
-    after noDepths (edgeRoot (baseCurveRadicand cy ky y)) (λ b.
-    circleDepth rx x (rx -₆₄ baseCurveSag cy y b) b)
+unfoldable pub toroidSag : Float → Float → Float → Float → Float → Told Float
+toroidSag rx cy ky x y =
+    after 0f (edgeRoot (baseCurveRadicand cy ky y)) (λ b.
+    circleSag rx x (rx -₆₄ baseCurveSag cy y b))
 
 -- the base curve's slope: its radicand groups otherwise than the sag's
 unfoldable pub slopeRadicand : Float → Float → Float → Float
@@ -141,20 +142,13 @@ toroidSlopes rx cy ky x y =
     after noMeridians (edgeRoot (baseCurveRadicand cy ky y)) (λ b.
     circleSlopes rx cy ky x y (rx -₆₄ baseCurveSag cy y b))
 
--- the slopes, given the circle's radius and root and the base curve's root that the sag had
-unfoldable pub toroidSlopesFrom : Float → Float → Float → Float → Float → Float → Float → Float → Told Meridians
-toroidSlopesFrom rx cy ky x y term s b =
-    let radicand = term *₆₄ term -₆₄ x *₆₄ x in
-    if radicand ≤₆₄ 1e-14 then noPair 5 else
-    gives (circleSlopesAt rx x term (rootAgain radicand (larger radicand 0f) s) (baseCurveSlope cy y (rootAgain (slopeRadicand cy ky y) (larger (baseCurveRadicand cy ky y) 0f) b)))
-
 -- ToroidalSurface::normal
 unfoldable pub toroidNormal : Float → Float → Float → Float → Float → Told Vec3
 toroidNormal rx cy ky x y = normalOf (toroidSlopes rx cy ky x y)
 
 abbrev pub toroidShape : Float → Float → Float → Float → Shape
 toroidShape rx cy ky semi = record {
-  sag = λ r p. toroidDepth rx cy ky (p .x) (p .y);
+  sag = λ r p. toroidSag rx cy ky (p .x) (p .y);
   slopes = λ r p. toroidSlopes rx cy ky (p .x) (p .y);
   semi = semi;
   checksLast = true;
@@ -164,19 +158,23 @@ toroidShape rx cy ky semi = record {
 unfoldable pub toroidGood : ToroidalSurface → Bool
 toroidGood s = finite (s .rx) && finite (s .cy) && finite (s .ky) && finite (s .semi)
 
-unfoldable pub newToroid : Float → Float → Float → Float → Told ToroidalSurface
-newToroid rx cy ky semi =
+unfoldable pub newToroidAnswer : Float → Float → Float → Float → Told ToroidalSurface
+newToroidAnswer rx cy ky semi =
     let s : ToroidalSurface = record { rx = rx; cy = cy; ky = ky; semi = semi } in
     accepted noToroid (toroidGood s) semi s
 
 unfoldable pub toroidSagAnswer : ToroidalSurface → Float → Float → Told Float
-toroidSagAnswer s x y = handedOut 2 0f finite (finite x && finite y && toroidGood s) (sagOf (toroidDepth (s .rx) (s .cy) (s .ky) x y))
+toroidSagAnswer s x y =
+    handedOut 2 0f finite (finite x && finite y && toroidGood s) (toroidSag (s .rx) (s .cy) (s .ky) x y)
 
 unfoldable pub toroidSlopesAnswer : ToroidalSurface → Float → Float → Told Meridians
-toroidSlopesAnswer s x y = handedOut 2 noMeridians bothFinite (finite x && finite y && toroidGood s) (toroidSlopes (s .rx) (s .cy) (s .ky) x y)
+toroidSlopesAnswer s x y =
+    handedOut 2 noMeridians bothFinite (finite x && finite y && toroidGood s) (toroidSlopes (s .rx) (s .cy) (s .ky) x y)
 
 unfoldable pub toroidNormalAnswer : ToroidalSurface → Float → Float → Told Vec3
-toroidNormalAnswer s x y = handedOut 2 zeros allFinite (finite x && finite y && toroidGood s) (toroidNormal (s .rx) (s .cy) (s .ky) x y)
+toroidNormalAnswer s x y =
+    handedOut 2 zeros allFinite (finite x && finite y && toroidGood s) (toroidNormal (s .rx) (s .cy) (s .ky) x y)
 
 unfoldable pub toroidCrossingAnswer : ToroidalSurface → Ray → Float → Told Landing
-toroidCrossingAnswer s ray vertex = newtonAnswer (toroidGood s) (toroidShape (s .rx) (s .cy) (s .ky) (s .semi)) ray vertex
+toroidCrossingAnswer s ray vertex =
+    newtonAnswer (toroidGood s) (toroidShape (s .rx) (s .cy) (s .ky) (s .semi)) ray vertex

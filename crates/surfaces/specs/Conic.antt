@@ -1,22 +1,21 @@
 -- Conic surfaces: constructors, radius, sag, normal, and where a ray meets one. Definitions only.
-use mathlib.Core.Path.{_≡_}
 use mathlib.Core.Bool.{Bool, true, false, not, _&&_, _||_}
 use mathlib.Core.List.{List, [], _∷_}
 use lib.Ieee.{Float, neg, isNan}
 use lib.Ieee.Scale.{finite}
-use Rattle.numbers.specs.Arithmetic.{_+₆₄_, _-₆₄_, _*₆₄_, _/₆₄_, _<₆₄_, _≤₆₄_, if_then_else_, 0f, ½, 1f, 2f, 4f, 1e-4, 1e-7, 1e-15, 1e-30}
+use Rattle.numbers.specs.Arithmetic.{_+₆₄_, _-₆₄_, _*₆₄_, _/₆₄_, _<₆₄_, _≤₆₄_, if_then_else_, 0f, ½, 1f, 2f, 4f, 1e-4}
+use Rattle.numbers.specs.Arithmetic.{1e-7, 1e-15, 1e-30}
 use Rattle.numbers.specs.Basic.{magnitude, larger, infinite}
-use Rattle.numbers.specs.Sqrt.{root}
-use Rattle.surfaces.specs.Types.{vec, zeros, backwards, dotOf, squaredLength, overOf, distance, pointAt, allFinite, rayFinite, landing, noLanding, noHit, hitFinite}
-use Rattle.surfaces.specs.Told.{handedOut, Told, plain, vignetted, gives, refused, done, after, checked9, noNumber, noDirection, noCrossing, noConic}
+use Rattle.numbers.specs.Root.{root}
+use Rattle.surfaces.specs.Types.{vec, zeros, backwards, dotOf, squaredLength, overOf, distance, pointAt}
+use Rattle.surfaces.specs.Types.{allFinite, rayFinite, landing, noLanding, noHit, hitFinite}
+use Rattle.surfaces.specs.Refusal.{handedOut, Told, plain, vignetted, gives, refused, done, after, checked9}
+use Rattle.surfaces.specs.Refusal.{noNumber, noDirection, noCrossing, noConic}
 use Rattle.surfaces.specs.declared.types.Vec3.{Vec3}
 use Rattle.surfaces.specs.declared.types.Ray.{Ray}
 use Rattle.surfaces.specs.declared.types.Landing.{Landing}
 use Rattle.surfaces.specs.declared.types.HitRecord.{HitRecord}
 use Rattle.surfaces.specs.declared.conic.ConicSurface.{ConicSurface}
-use Rattle.surfaces.specs.declared.conic.Quadratic.{Quadratic}
-use Rattle.surfaces.specs.declared.conic.Root.{Root}
-use Rattle.surfaces.specs.declared.conic.Root.the-variants as candidate
 
 abbrev pub conicSurface : Float → Float → Float → Float → ConicSurface
 conicSurface v c k semi = record { vertex = v; curvature = c; conic = k; semi = semi }
@@ -25,15 +24,15 @@ conicSurface v c k semi = record { vertex = v; curvature = c; conic = k; semi = 
 unfoldable pub curvatureOf : Float → Float
 curvatureOf radius = if infinite radius then 0f else 1f /₆₄ radius
 
-unfoldable pub fromRadius : Float → Float → Float → Told ConicSurface
-fromRadius radius k semi =
+unfoldable pub fromRadiusAnswer : Float → Float → Float → Told ConicSurface
+fromRadiusAnswer radius k semi =
     if isNan radius || isNan k || isNan semi then refused noConic (plain 4) else
     if semi <₆₄ 0f then refused noConic (plain 3) else
     if magnitude radius <₆₄ 1e-15 then refused noConic (plain 4) else
     gives (conicSurface 0f (curvatureOf radius) k semi)
 
-unfoldable pub fromCurvature : Float → Float → Float → Told ConicSurface
-fromCurvature c k semi =
+unfoldable pub fromCurvatureAnswer : Float → Float → Float → Told ConicSurface
+fromCurvatureAnswer c k semi =
     if isNan c || isNan k || isNan semi then refused noConic (plain 4) else
     if semi <₆₄ 0f then refused noConic (plain 3) else
     gives (conicSurface 0f c k semi)
@@ -111,19 +110,15 @@ planeCrossing ray s =
 abbrev pub sheetTolerance : Float
 sheetTolerance = 1e-4
 
--- the sheet through the vertex: a point whose sag exists, and whose local z is within the tolerance of it
-unfoldable pub onSheet : ConicSurface → Vec3 → Float → Bool
-onSheet s p r =
-    let z = conicSag r (s .curvature) (s .conic) in
-    done z && (magnitude (p .z -₆₄ s .vertex -₆₄ z .value) <₆₄ sheetTolerance)
+-- whether the sag at r exists and z is within the tolerance of it
+unfoldable pub nearSag : Float → Float → Float → Float → Bool
+nearSag c k z r =
+    let sag = conicSag r c k in
+    done sag && (magnitude (z -₆₄ sag .value) <₆₄ sheetTolerance)
 
--- What a test without roots shows, for the factor b: the sag at r is by the formula, and z is within the tolerance of it.
-pub record SagNear (z c b r : Float) : Type 0 where
-  pub curved : finite c ≡ true
-  pub placed : finite r ≡ true
-  pub beside : (magnitude r <₆₄ 1e-15) ≡ false
-  pub inside : (1f -₆₄ b *₆₄ (r *₆₄ r) <₆₄ conicEdge) ≡ false
-  pub close : (magnitude (z -₆₄ (c *₆₄ (r *₆₄ r)) /₆₄ (1f +₆₄ root (1f -₆₄ b *₆₄ (r *₆₄ r)))) <₆₄ sheetTolerance) ≡ true
+-- the sheet through the vertex
+abbrev pub onSheet : ConicSurface → Vec3 → Float → Bool
+onSheet s p r = nearSag (s .curvature) (s .conic) (p .z -₆₄ s .vertex) r
 
 -- the first of the candidates that is on the sheet decides
 unfoldable pub firstOn : Ray → ConicSurface → List Float → Told Landing
@@ -143,11 +138,6 @@ firstRoot q c = if 1e-30 <₆₄ magnitude q then kept (c /₆₄ q) else []
 unfoldable pub secondRoot : Float → Float → List Float
 secondRoot q a = if (1e-30 <₆₄ magnitude a) && (1e-30 <₆₄ magnitude q) then kept (q /₆₄ a) else []
 
--- the code's candidate, if it has one, as a list
-abbrev pub listed : Root → List Float
-listed candidate.Dropped = []
-listed (candidate.At t) = t ∷ []
-
 -- two lists of at most one number each, in ascending order
 unfoldable pub ascending : List Float → List Float → List Float
 ascending [] y = y
@@ -155,6 +145,11 @@ ascending (t ∷ l) [] = t ∷ l
 ascending (t ∷ l) (u ∷ m) = if u <₆₄ t then u ∷ t ∷ [] else t ∷ u ∷ []
 
 -- A t² + B t + C = 0 where the ray meets the whole quadric
+pub record Quadratic : Type 0 where
+  pub a : Float
+  pub b : Float
+  pub c : Float
+
 unfoldable pub quadraticOf : Ray → ConicSurface → Quadratic
 quadraticOf ray s =
     let c = s .curvature in
@@ -195,14 +190,14 @@ unfoldable pub hitAt : Ray → Landing → Vec3 → HitRecord
 hitAt ray l n = record { t = l .t; point = l .point; normal = n; front = dotOf (ray .direction) n <₆₄ 0f }
 
 -- the Rust's intersect_conic
-unfoldable pub meetRule : Ray → ConicSurface → Told HitRecord
-meetRule ray s =
+unfoldable pub conicMeet : Ray → ConicSurface → Told HitRecord
+conicMeet ray s =
     after noHit (conicCrossing ray s) (λ l.
     after noHit (normalAt (l .point) s) (λ n.
     gives (hitAt ray l n)))
 
-unfoldable pub meetAnswer : Ray → ConicSurface → Told HitRecord
-meetAnswer ray s =
+unfoldable pub conicMeetAnswer : Ray → ConicSurface → Told HitRecord
+conicMeetAnswer ray s =
     if not (rayFinite ray && conicFinite s) then refused noHit (plain 2) else
     if s .semi <₆₄ 0f then refused noHit (plain 3) else
-    checked9 noHit hitFinite (meetRule ray s)
+    checked9 noHit hitFinite (conicMeet ray s)

@@ -1,6 +1,7 @@
--- Document 01's edges, both sides of each, a case for each port that looks right, and the formulas where each of their
--- terms counts: one list, which one theorem covers. A row has a rule's answer and the paper's, each as a number of the
--- table, the passes where there are any, and the bit patterns of all values. Assumes nothing.
+-- SCOPE's edges (E1 to E7), both sides of each, a case for each port that looks right (W1 to W4), and the formulas
+-- where each of their terms counts: one list, which one theorem covers (P4). A row has a rule's answer and the one
+-- worked out by hand, each as a number of the table, the passes where there are any, and the bit patterns of all
+-- values. Assumes nothing.
 use Prim.Native.Nat.{ℕ, _+_, _-_, _*_, _^_}
 use mathlib.Core.Path.{_≡_, refl}
 use mathlib.Core.Bool.{Bool, true, false, _&&_}
@@ -10,15 +11,34 @@ use lib.ListN.{length, take}
 use lib.Ieee.{Float, nan, inf, binary64, ofBits, toBits, ofInt, neg, round, add, sub, mul, div, lt, le, eq, isNan}
 use Rattle.numbers.specs.Arithmetic.{if_then_else_, decimal, 0f, ½, 1f, 2f, 4f}
 use Rattle.numbers.specs.Basic.{magnitude, negative, larger, clamped, infinite}
-use Rattle.numbers.specs.Sqrt.{root}
-use Rattle.surfaces.specs.Types.{vec, backwards, dotOf, overOf, distance, pointAt, allFinite, rayFinite, landing, bothFinite, meridians, noLanding, landingFinite, noHit, hitFinite, noCoefficients, everyFinite, coefficientsGood}
-use Rattle.surfaces.specs.Told.{Told, Ended, plain, vignetted, gives, refused, noNumber, noPair, noDirection, noCrossing, noConic, noLeaving, ended, sagOf}
-use Rattle.surfaces.specs.Snell.{turnedIf, negatedIf, mirrored, reflected, reflectAnswer, bent, refracted, refractAnswer}
-use Rattle.surfaces.specs.Conic.{conicSurface, curvatureOf, fromRadius, fromCurvature, conicSag, conicSagAnswer, gradientNormal, conicNormal, conicNormalAnswer, conicFinite, landedWithin, planeCrossing, onSheet, firstOn, kept, firstRoot, secondRoot, ascending, quadraticOf, signOf, curvedCrossing, conicCrossing, normalAt, hitAt, meetRule, meetAnswer}
-use Rattle.surfaces.specs.Newton.{arrivedAt, movedBy, passAt, vertexPlane, passesFrom, newtonEnd, passStart, nextPass, limitedPass}
-use Rattle.surfaces.specs.Asphere.{powerSumFrom, slopeSumFrom, edgeRoot, baseRoot, baseSag, baseSlope, evenDepth, evenSlopeFrom, evenSlope, radialSlopes, evenSlopes, lengthOf, facingOf, evenFacing, evenNormal, evenGood, evenSagAnswer, evenSlopeAnswer, evenParaxial, evenCrossingAnswer, oddSag, oddBaseSlope, oddSlope, oddNormal, oddGood, oddSagAnswer, oddNormalAnswer}
-use Rattle.surfaces.specs.Biconic.{numeratorOf, biconicRadicand, biconicDepth, onAxis, meridianSlope, biconicSlopesAt, biconicSlopes, normalOf, biconicNormal, biconicGood, biconicSagAnswer, biconicSlopesAnswer, biconicNormalAnswer, biconicCrossingAnswer, baseCurveRadicand, baseCurveSag, circleDepth, toroidDepth, slopeRadicand, baseCurveSlope, circleSlopesAt, circleSlopes, toroidSlopes, toroidNormal, toroidGood, toroidSagAnswer, toroidSlopesAnswer, toroidCrossingAnswer}
-use Rattle.surfaces.specs.Surface.{surfaceEnd, surfaceNormal, onwardFrom, turnRule}
+use Rattle.numbers.specs.Root.{root}
+use Rattle.surfaces.specs.Types.{vec, backwards, dotOf, overOf, distance, pointAt, allFinite, rayFinite, landing}
+use Rattle.surfaces.specs.Types.{bothFinite, meridians, noLanding, landingFinite, noHit, hitFinite}
+use Rattle.surfaces.specs.Types.{noCoefficients, everyFinite, coefficientsGood}
+use Rattle.surfaces.specs.Refusal.{Told, Ended, plain, vignetted, gives, refused, noNumber, noPair, noDirection}
+use Rattle.surfaces.specs.Refusal.{noCrossing, noConic, noLeaving, ended}
+use Rattle.surfaces.specs.Snell.{turnedIf, negatedIf, mirrored, reflected, reflectAnswer, bent, refracted}
+use Rattle.surfaces.specs.Snell.{refractAnswer}
+use Rattle.surfaces.specs.Conic.{conicSurface, curvatureOf, fromRadiusAnswer, fromCurvatureAnswer, conicSag}
+use Rattle.surfaces.specs.Conic.{conicSagAnswer, gradientNormal, conicNormal, conicNormalAnswer, conicFinite}
+use Rattle.surfaces.specs.Conic.{landedWithin, planeCrossing, nearSag, firstOn, kept, firstRoot, secondRoot}
+use Rattle.surfaces.specs.Conic.{ascending, quadraticOf, signOf, curvedCrossing, conicCrossing, normalAt, hitAt}
+use Rattle.surfaces.specs.Conic.{conicMeet, conicMeetAnswer}
+use Rattle.surfaces.specs.Sags.{edgeRoot}
+use Rattle.surfaces.specs.Newton.{arrivedAt, movedBy, passAt, vertexPlane, passesFrom, newtonEnd, passStart}
+use Rattle.surfaces.specs.Newton.{nextPass, limitedPass}
+use Rattle.surfaces.specs.Asphere.{powerSumFrom, slopeSumFrom, baseSag, baseSlope, evenSag, evenSlope}
+use Rattle.surfaces.specs.Asphere.{radialSlopes, evenSlopes, lengthOf, facingOf, evenFacing, evenNormal, evenGood}
+use Rattle.surfaces.specs.Asphere.{evenSagAnswer, evenSlopeAnswer, evenParaxialAnswer, evenCrossingAnswer, oddSag}
+use Rattle.surfaces.specs.Asphere.{oddBaseSlope, oddSlope, oddNormal, oddGood, oddSagAnswer, oddNormalAnswer}
+use Rattle.surfaces.specs.Biconic.{numeratorOf, biconicRadicand, biconicSag, onAxis, meridianSlope}
+use Rattle.surfaces.specs.Biconic.{biconicSlopesAt, biconicSlopes, normalOf, biconicNormal, biconicGood}
+use Rattle.surfaces.specs.Biconic.{biconicSagAnswer, biconicSlopesAnswer, biconicNormalAnswer}
+use Rattle.surfaces.specs.Biconic.{biconicCrossingAnswer, baseCurveRadicand, baseCurveSag, circleSag, toroidSag}
+use Rattle.surfaces.specs.Biconic.{slopeRadicand, baseCurveSlope, circleSlopesAt, circleSlopes, toroidSlopes}
+use Rattle.surfaces.specs.Biconic.{toroidNormal, toroidGood, toroidSagAnswer, toroidSlopesAnswer}
+use Rattle.surfaces.specs.Biconic.{toroidCrossingAnswer}
+use Rattle.surfaces.specs.Surface.{surfaceEnd, surfaceNormal, onwardFrom, turnAnswer}
 use Rattle.surfaces.specs.declared.types.Vec3.{Vec3}
 use Rattle.surfaces.specs.declared.types.Ray.{Ray}
 use Rattle.surfaces.specs.declared.types.Landing.{Landing}
@@ -71,7 +91,9 @@ abbrev pub crossing : Told Landing → List ℕ
 crossing t = row (t .line) (t .value .t ∷ coordinates (t .value .point))
 
 abbrev pub meet : Told HitRecord → List ℕ
-meet t = row (t .line) (t .value .t ∷ (if t .value .front then 1f else 0f) ∷ coordinates (t .value .point) ++ coordinates (t .value .normal))
+meet t = row (t .line)
+    (t .value .t ∷
+    (if t .value .front then 1f else 0f) ∷ coordinates (t .value .point) ++ coordinates (t .value .normal))
 
 abbrev pub conic : Told ConicSurface → List ℕ
 conic t = row (t .line) (t .value .vertex ∷ t .value .curvature ∷ t .value .conic ∷ t .value .semi ∷ [])
@@ -101,7 +123,7 @@ same [] (n ∷ m) = false
 same (k ∷ l) [] = false
 same (k ∷ l) (n ∷ m) = eqb k n && same l m
 
--- whether each rule's answer is the paper's
+-- whether each rule's answer is the one worked out by hand
 abbrev pub agree : List Case → Bool
 agree [] = true
 agree (c ∷ l) = same (c .rule) (c .paper) && agree l
@@ -141,7 +163,13 @@ abbrev pub asphere : EvenAsphere
 asphere = even (3 over 8) (1 over 3) (these (½ ∷ 1 over 4 ∷ 1 over 8 ∷ [])) (whole 5)
 
 abbrev pub odd : OddAsphere
-odd = record { curvature = 3 over 20; conic = 1 over 3; semi = whole 10; even = these (½ ∷ neg (1 over 16) ∷ []); odd = these (neg (3 over 2) ∷ 3 over 8 ∷ []) }
+odd = record {
+  curvature = 3 over 20;
+  conic = 1 over 3;
+  semi = whole 10;
+  even = these (½ ∷ neg (1 over 16) ∷ []);
+  odd = these (neg (3 over 2) ∷ 3 over 8 ∷ []);
+}
 
 abbrev pub biconic : BiconicSurface
 biconic = record { cx = 1 over 4; kx = ½; cy = 3 over 16; ky = neg (whole 3); semi = whole 10 }
@@ -183,7 +211,9 @@ to-and-fro = ray (vec 2f 0f 0f) (vec 1f 0f 2f)
 
 -- where the second exit of a flat even asphere lands on a ray from (0, 0, 1e-10) towards (1e200, 0, 1000)
 abbrev pub far-out : Vec3
-far-out = surfaceEnd (flat (whole 10)) (ray (vec 0f 0f (1 over 10 ^ 10)) (vec (whole (10 ^ 200)) 0f (whole 1000))) .answer .value .point
+far-out =
+    surfaceEnd (flat (whole 10))
+    (ray (vec 0f 0f (1 over 10 ^ 10)) (vec (whole (10 ^ 200)) 0f (whole 1000))) .answer .value .point
 
 abbrev pub steep : Surface
 steep = surface 0f (whole 9) (Biconic (whole (10 ^ 308)) (neg 1f) 0f 0f) noCoefficients
@@ -194,49 +224,58 @@ cases =
     (number (conicSagAnswer 4f (1 over 8) (neg 1f)) ⇒ number (gives 1f)) ∷
     (number (conicSagAnswer 1f 1f 0f) ⇒ number (gives 1f)) ∷
     (number (conicSagAnswer ((2 ^ 52 + 1) over 2 ^ 52) 1f 0f) ⇒ number (noNumber 5)) ∷
-    (number (evenSagAnswer (even 1f 0f noCoefficients 2f) ((2 ^ 52 + 1) over 2 ^ 52)) ⇒ number (gives ((2 ^ 51 + 1) over 2 ^ 51))) ∷
+    (number (evenSagAnswer (even 1f 0f noCoefficients 2f) ((2 ^ 52 + 1) over 2 ^ 52))
+    ⇒ number (gives ((2 ^ 51 + 1) over 2 ^ 51))) ∷
     -- flat below 1e-15
     (number (conicSagAnswer 1f (1 over 2 ^ 50) (neg 1f)) ⇒ number (gives 0f)) ∷
     (number (conicSagAnswer 1f (1 over 2 ^ 49) (neg 1f)) ⇒ number (gives (1 over 2 ^ 50))) ∷
     -- (1 + k) c c r² groups from the left: c c alone would be infinite; the sag is 2 ^ 599
     (number (conicSagAnswer 1f (whole (2 ^ 600)) (neg 1f)) ⇒ 1 ∷ 0 ∷ 0 ∷ 0x6560_0000_0000_0000 ∷ []) ∷
     -- conic normal off the axis, at a vertex other than 0: the gradient is (1/4, 1/8, -1/4)
-    (direction (conicNormalAnswer (vec 4f 2f 4f) (conicSurface (whole 3) (1 over 16) (whole 11) (whole 5))) ⇒ direction (gives (vec (2 over 3) (1 over 3) (neg (2 over 3))))) ∷
+    (direction (conicNormalAnswer (vec 4f 2f 4f) (conicSurface (whole 3) (1 over 16) (whole 11) (whole 5)))
+    ⇒ direction (gives (vec (2 over 3) (1 over 3) (neg (2 over 3))))) ∷
     -- a plane a little behind the origin is met at t 0, one farther behind is missed
-    (meet (meetAnswer (on-axis (1 over 2 ^ 24)) (plane 0f)) ⇒ meet (hit 0f (height (1 over 2 ^ 24)))) ∷
-    (meet (meetAnswer (on-axis (1 over 2 ^ 23)) (plane 0f)) ⇒ meet (refused noHit (plain 6))) ∷
+    (meet (conicMeetAnswer (on-axis (1 over 2 ^ 24)) (plane 0f)) ⇒ meet (hit 0f (height (1 over 2 ^ 24)))) ∷
+    (meet (conicMeetAnswer (on-axis (1 over 2 ^ 23)) (plane 0f)) ⇒ meet (refused noHit (plain 6))) ∷
     -- |dz| below 1e-15 is a miss, at a plane and at a kind that passes; above, the ray comes to the surface at t 1
-    (meet (meetAnswer (skimming (1 over 2 ^ 50)) (plane 0f)) ⇒ meet (refused noHit (plain 6))) ∷
-    (meet (meetAnswer (skimming (1 over 2 ^ 49)) (plane 0f)) ⇒ meet (hit 1f (vec 1f 0f 0f))) ∷
+    (meet (conicMeetAnswer (skimming (1 over 2 ^ 50)) (plane 0f)) ⇒ meet (refused noHit (plain 6))) ∷
+    (meet (conicMeetAnswer (skimming (1 over 2 ^ 49)) (plane 0f)) ⇒ meet (hit 1f (vec 1f 0f 0f))) ∷
     (end (surfaceEnd (flat (whole 10)) (skimming (1 over 2 ^ 50))) ⇒ end (ended (noCrossing 6) 1)) ∷
-    (end (surfaceEnd (flat (whole 10)) (skimming (1 over 2 ^ 49))) ⇒ end (ended (gives (landing 1f (vec 1f 0f 0f))) 1)) ∷
+    (end (surfaceEnd (flat (whole 10)) (skimming (1 over 2 ^ 49))) ⇒ end (ended (gives (landing 1f (vec 1f 0f 0f))) 1))
+    ∷
     -- the nearer crossing of a sphere, t 2 and not 18; on a hyperboloid the sheet through the vertex, t 5 and not 3
-    (meet (meetAnswer (on-axis (neg 2f)) (conicSurface 0f (1 over 8) 0f (whole 10))) ⇒ meet (hit 2f (height 0f))) ∷
-    (meet (meetAnswer (on-axis (neg (whole 5))) (conicSurface 0f 1f (neg 2f) (whole 10))) ⇒ meet (hit (whole 5) (height 0f))) ∷
+    (meet (conicMeetAnswer (on-axis (neg 2f)) (conicSurface 0f (1 over 8) 0f (whole 10))) ⇒ meet (hit 2f (height 0f))) ∷
+    (meet (conicMeetAnswer (on-axis (neg (whole 5))) (conicSurface 0f 1f (neg 2f) (whole 10)))
+    ⇒ meet (hit (whole 5) (height 0f))) ∷
     -- a negative semi-diameter is 3 for a conic and 2 for the others, after a number that is not finite, 2
-    (meet (meetAnswer (on-axis (neg 2f)) (conicSurface 0f 0f 0f (neg 1f))) ⇒ meet (refused noHit (plain 3))) ∷
-    (meet (meetAnswer (on-axis nan) (conicSurface 0f 0f 0f (neg 1f))) ⇒ meet (refused noHit (plain 2))) ∷
-    (crossing (evenCrossingAnswer (even 0f 0f noCoefficients (neg 1f)) (on-axis (neg 2f)) 0f) ⇒ crossing (noCrossing 2)) ∷
+    (meet (conicMeetAnswer (on-axis (neg 2f)) (conicSurface 0f 0f 0f (neg 1f))) ⇒ meet (refused noHit (plain 3))) ∷
+    (meet (conicMeetAnswer (on-axis nan) (conicSurface 0f 0f 0f (neg 1f))) ⇒ meet (refused noHit (plain 2))) ∷
+    (crossing (evenCrossingAnswer (even 0f 0f noCoefficients (neg 1f)) (on-axis (neg 2f)) 0f)
+    ⇒ crossing (noCrossing 2)) ∷
     -- constructors: 4 for NaN before 3 for a negative semi-diameter before 4 for a radius of about 0; an infinite
     -- radius is a plane
-    (conic (fromCurvature nan 0f (neg 1f)) ⇒ conic (refused noConic (plain 4))) ∷
-    (conic (fromRadius 0f 0f (neg 1f)) ⇒ conic (refused noConic (plain 3))) ∷
-    (conic (fromRadius 0f 0f 1f) ⇒ conic (refused noConic (plain 4))) ∷
-    (conic (fromRadius (inf true) 2f 1f) ⇒ conic (gives (conicSurface 0f 0f 2f 1f))) ∷
+    (conic (fromCurvatureAnswer nan 0f (neg 1f)) ⇒ conic (refused noConic (plain 4))) ∷
+    (conic (fromRadiusAnswer 0f 0f (neg 1f)) ⇒ conic (refused noConic (plain 3))) ∷
+    (conic (fromRadiusAnswer 0f 0f 1f) ⇒ conic (refused noConic (plain 4))) ∷
+    (conic (fromRadiusAnswer (inf true) 2f 1f) ⇒ conic (gives (conicSurface 0f 0f 2f 1f))) ∷
     -- the r of a 7 may be infinite, and is then no 9
-    (meet (meetAnswer (ray (vec 0f 0f (neg 1f)) (vec (whole (10 ^ 200)) 0f 1f)) (plane 0f)) ⇒ meet (refused noHit (vignetted (inf false) (whole 10)))) ∷
+    (meet (conicMeetAnswer (ray (vec 0f 0f (neg 1f)) (vec (whole (10 ^ 200)) 0f 1f)) (plane 0f))
+    ⇒ meet (refused noHit (vignetted (inf false) (whole 10)))) ∷
     -- 9 is a number that an answer would hand out
-    (number (evenParaxial (even (whole (10 ^ 308)) 0f (these (whole (10 ^ 308) ∷ [])) 1f)) ⇒ number (noNumber 9)) ∷
+    (number (evenParaxialAnswer (even (whole (10 ^ 308)) 0f (these (whole (10 ^ 308) ∷ [])) 1f))
+    ⇒ number (noNumber 9)) ∷
     -- even asphere: three coefficients, and a base whose root is 1/2: sag 1 + (2 + 4 + 8), slope 3/2 + (2 + 8 + 24)
     (number (evenSagAnswer asphere 2f) ⇒ number (gives (whole 15))) ∷
     (number (evenSlopeAnswer asphere 2f) ⇒ number (gives (71 over 2))) ∷
     -- eight coefficients are added up, a count of nine is refused
-    (number (evenSagAnswer (even 0f 0f (ones 8) (whole 5)) 2f) ⇒ number (gives (whole (4 + 4 ^ 2 + 4 ^ 3 + 4 ^ 4 + 4 ^ 5 + 4 ^ 6 + 4 ^ 7 + 4 ^ 8)))) ∷
+    (number (evenSagAnswer (even 0f 0f (ones 8) (whole 5)) 2f)
+    ⇒ number (gives (whole (4 + 4 ^ 2 + 4 ^ 3 + 4 ^ 4 + 4 ^ 5 + 4 ^ 6 + 4 ^ 7 + 4 ^ 8)))) ∷
     (number (evenSagAnswer (even 0f 0f (ones 9) (whole 5)) 2f) ⇒ number (noNumber 2)) ∷
     -- odd asphere with such a base: sag 5/2 + (25/2 - 625/16) + (-15/2 + 375/8) at r 5, and there the slope
     -- 3/2 + (5 - 125/4) + (-3/2 + 225/8), which is 15/8
     (number (oddSagAnswer odd (whole 5)) ⇒ number (gives (245 over 16))) ∷
-    (direction (oddNormalAnswer odd (whole 3) 4f) ⇒ direction (gives (vec (9 over 17) (12 over 17) (neg (8 over 17))))) ∷
+    (direction (oddNormalAnswer odd (whole 3) 4f) ⇒ direction (gives (vec (9 over 17) (12 over 17) (neg (8 over 17)))))
+    ∷
     -- even asphere: within 1.5 semi-diameters but beyond one it is vignetted, beyond 1.5 it is missed; slots past the
     -- count are not read
     (end (surfaceEnd (bowl (whole 5)) beside) ⇒ end (ended (gives (landing (whole 3) (vec 4f 0f 2f))) 2)) ∷
@@ -248,22 +287,31 @@ cases =
     (end (surfaceEnd (bowl (whole 5)) (rising ((2 ^ 49 + 1) over 2 ^ 49))) ⇒ end (ended (noCrossing 6) 2)) ∷
     -- the second exit: an even asphere does not check r there, a biconic and a toroid do
     (end (surfaceEnd (flat ½) sideways) ⇒ end (ended (gives at-minus-1) 1)) ∷
-    (end (surfaceEnd (surface 0f ½ (Biconic 0f 0f 0f 0f) noCoefficients) sideways) ⇒ end (ended (refused noLanding (vignetted 1f ½)) 1)) ∷
-    (end (surfaceEnd (surface 0f 1f (Biconic 0f 0f 0f 0f) noCoefficients) sideways) ⇒ end (ended (gives at-minus-1) 1)) ∷
-    (end (surfaceEnd (surface 0f ½ (Toroid (whole 5) 0f 0f) noCoefficients) sideways) ⇒ end (ended (refused noLanding (vignetted 1f ½)) 1)) ∷
-    (end (surfaceEnd (surface 0f 1f (Toroid (whole 5) 0f 0f) noCoefficients) sideways) ⇒ end (ended (gives at-minus-1) 1)) ∷
+    (end (surfaceEnd (surface 0f ½ (Biconic 0f 0f 0f 0f) noCoefficients) sideways)
+    ⇒ end (ended (refused noLanding (vignetted 1f ½)) 1)) ∷
+    (end (surfaceEnd (surface 0f 1f (Biconic 0f 0f 0f 0f) noCoefficients) sideways)
+    ⇒ end (ended (gives at-minus-1) 1)) ∷
+    (end (surfaceEnd (surface 0f ½ (Toroid (whole 5) 0f 0f) noCoefficients) sideways)
+    ⇒ end (ended (refused noLanding (vignetted 1f ½)) 1)) ∷
+    (end (surfaceEnd (surface 0f 1f (Toroid (whole 5) 0f 0f) noCoefficients) sideways)
+    ⇒ end (ended (gives at-minus-1) 1)) ∷
     -- on an even asphere r may be infinite there, which its normal refuses with 2
-    (turn (turnRule (flat (whole 10)) (vec (whole (10 ^ 200)) 0f (whole 1000)) far-out (Media 1f 1f)) ⇒ turn (refused noLeaving (plain 2))) ∷
+    (turn (turnAnswer (flat (whole 10)) (vec (whole (10 ^ 200)) 0f (whole 1000)) far-out (Media 1f 1f))
+    ⇒ turn (refused noLeaving (plain 2))) ∷
     -- the last pass, the 25th or the 35th, ends in a miss if in nothing else
     (end (surfaceEnd (surface 0f (whole 5) (Even 0f 0f) (ones 1)) to-and-fro) ⇒ end (ended (noCrossing 6) 25)) ∷
-    (end (surfaceEnd (surface 0f (whole 5) (Biconic 2f (neg 1f) 0f 0f) noCoefficients) to-and-fro) ⇒ end (ended (noCrossing 6) 35)) ∷
+    (end (surfaceEnd (surface 0f (whole 5) (Biconic 2f (neg 1f) 0f 0f) noCoefficients) to-and-fro)
+    ⇒ end (ended (noCrossing 6) 35)) ∷
     -- and it may hit: on a ray that touches, x - 64 halves 24 times from -32
-    (end (surfaceEnd (surface 0f (whole 100) (Even 0f 0f) (ones 1)) (ray (vec (whole 32) 0f 0f) (vec 1f 0f (whole 128)))) ⇒
-    end (ended (gives (landing ((2 ^ 24 - 1) over 2 ^ 19) (vec ((2 ^ 25 - 1) over 2 ^ 19) 0f ((2 ^ 24 - 1) over 2 ^ 12)))) 25)) ∷
+    (end (surfaceEnd (surface 0f (whole 100) (Even 0f 0f) (ones 1))
+    (ray (vec (whole 32) 0f 0f) (vec 1f 0f (whole 128)))) ⇒
+    end (ended
+    (gives (landing ((2 ^ 24 - 1) over 2 ^ 19) (vec ((2 ^ 25 - 1) over 2 ^ 19) 0f ((2 ^ 24 - 1) over 2 ^ 12)))) 25)) ∷
     -- biconic off the axis: the root is 2 and the numerator 16, the slopes are 2/3 + 1/3 and 1 - 1/2
     (number (biconicSagAnswer biconic 4f (whole 8)) ⇒ number (gives (16 over 3))) ∷
     (pair (biconicSlopesAnswer biconic 4f (whole 8)) ⇒ pair (gives (meridians 1f ½))) ∷
-    (direction (biconicNormalAnswer biconic 4f (whole 8)) ⇒ direction (gives (vec (2 over 3) (1 over 3) (neg (2 over 3))))) ∷
+    (direction (biconicNormalAnswer biconic 4f (whole 8))
+    ⇒ direction (gives (vec (2 over 3) (1 over 3) (neg (2 over 3))))) ∷
     -- toroid: both signs of rx, and the circle's rim, which has a sag and no slope
     (number (toroidSagAnswer (toroid (whole 5) 0f 0f) (whole 3) 0f) ⇒ number (gives 1f)) ∷
     (number (toroidSagAnswer (toroid (neg (whole 5)) 0f 0f) (whole 3) 0f) ⇒ number (gives (neg 1f))) ∷
@@ -272,25 +320,45 @@ cases =
     -- off both axes: the base curve has the root 1/2, the sag 2 and the slope 1, so the circle's radius is 5, or -5
     -- where rx is below 0
     (number (toroidSagAnswer (toroid (whole 7) (1 over 12) 2f) (whole 3) (whole 6)) ⇒ number (gives (whole 3))) ∷
-    (pair (toroidSlopesAnswer (toroid (whole 7) (1 over 12) 2f) (whole 3) (whole 6)) ⇒ pair (gives (meridians (3 over 4) (5 over 4)))) ∷
-    (pair (toroidSlopesAnswer (toroid (neg (whole 3)) (1 over 12) 2f) (whole 3) (whole 6)) ⇒ pair (gives (meridians (neg (3 over 4)) (5 over 4)))) ∷
+    (pair (toroidSlopesAnswer (toroid (whole 7) (1 over 12) 2f) (whole 3) (whole 6))
+    ⇒ pair (gives (meridians (3 over 4) (5 over 4)))) ∷
+    (pair (toroidSlopesAnswer (toroid (neg (whole 3)) (1 over 12) 2f) (whole 3) (whole 6))
+    ⇒ pair (gives (meridians (neg (3 over 4)) (5 over 4)))) ∷
     -- its sag takes NaN, and so it is missed after all its passes; the others are missed in the first
-    (end (surfaceEnd (surface (whole (10 ^ 308)) (whole 10) (Toroid (whole 5) 0f 0f) noCoefficients) (on-axis (neg (whole (10 ^ 308))))) ⇒ end (ended (noCrossing 6) 35)) ∷
-    (end (surfaceEnd (surface (whole (10 ^ 308)) (whole 10) (Even 0f 0f) noCoefficients) (on-axis (neg (whole (10 ^ 308))))) ⇒ end (ended (noCrossing 6) 1)) ∷
-    (end (surfaceEnd (surface (whole (10 ^ 308)) (whole 10) (Biconic 0f 0f 0f 0f) noCoefficients) (on-axis (neg (whole (10 ^ 308))))) ⇒ end (ended (noCrossing 6) 1)) ∷
+    (end (surfaceEnd (surface (whole (10 ^ 308)) (whole 10) (Toroid (whole 5) 0f 0f) noCoefficients)
+    (on-axis (neg (whole (10 ^ 308))))) ⇒ end (ended (noCrossing 6) 35)) ∷
+    (end (surfaceEnd (surface (whole (10 ^ 308)) (whole 10) (Even 0f 0f) noCoefficients)
+    (on-axis (neg (whole (10 ^ 308))))) ⇒ end (ended (noCrossing 6) 1)) ∷
+    (end (surfaceEnd (surface (whole (10 ^ 308)) (whole 10) (Biconic 0f 0f 0f 0f) noCoefficients)
+    (on-axis (neg (whole (10 ^ 308))))) ⇒ end (ended (noCrossing 6) 1)) ∷
     -- a normal that is not finite meets refraction's own test, 4 and not 9
     (reached (surfaceEnd steep (ray (vec 1f 0f (whole (5 * 10 ^ 307))) z)) ⇒ 1 ∷ 1 ∷ bits (0f ∷ [])) ∷
-    (turn (turnRule steep z (vec 1f 0f (whole (5 * 10 ^ 307))) (Media 1f 1f)) ⇒ turn (refused noLeaving (plain 4))) ∷
+    (turn (turnAnswer steep z (vec 1f 0f (whole (5 * 10 ^ 307))) (Media 1f 1f)) ⇒ turn (refused noLeaving (plain 4))) ∷
     -- refraction: k exactly 0 passes, below it is total reflection
     (direction (refractAnswer (vec 1f 0f 0f) backwards 1f 1f) ⇒ direction (gives (vec 1f 0f 0f))) ∷
     (direction (refractAnswer (vec 1f 0f 0f) backwards 2f 1f) ⇒ direction (noDirection 8)) ∷
     -- with eta 3/4 a sine of 4/5 becomes 3/5, on whichever side the normal is given: (7/9, -4/45, 28/45)
-    (direction (refractAnswer (vec (whole 28) 4f (whole 35)) (vec (neg (whole 8)) 4f (neg 1f)) (whole 3) 4f) ⇒ 1 ∷ 0 ∷ 0 ∷ 0x3FE8_E38E_38E3_8E39 ∷ 0xBFB6_C16C_16C1_6C17 ∷ 0x3FE3_E93E_93E9_3E94 ∷ []) ∷
-    (direction (refractAnswer (vec (whole 28) 4f (whole 35)) (vec (whole 8) (neg 4f) 1f) (whole 3) 4f) ⇒ 1 ∷ 0 ∷ 0 ∷ 0x3FE8_E38E_38E3_8E39 ∷ 0xBFB6_C16C_16C1_6C17 ∷ 0x3FE3_E93E_93E9_3E94 ∷ []) ∷
+    (direction (refractAnswer (vec (whole 28) 4f (whole 35)) (vec (neg (whole 8)) 4f (neg 1f)) (whole 3) 4f)
+    ⇒ 1 ∷ 0 ∷ 0 ∷ 0x3FE8_E38E_38E3_8E39 ∷ 0xBFB6_C16C_16C1_6C17 ∷ 0x3FE3_E93E_93E9_3E94 ∷ []) ∷
+    (direction (refractAnswer (vec (whole 28) 4f (whole 35)) (vec (whole 8) (neg 4f) 1f) (whole 3) 4f)
+    ⇒ 1 ∷ 0 ∷ 0 ∷ 0x3FE8_E38E_38E3_8E39 ∷ 0xBFB6_C16C_16C1_6C17 ∷ 0x3FE3_E93E_93E9_3E94 ∷ []) ∷
     -- a mirror, and one whose normal is given on the other side: (29/45, -28/45, -4/9)
     (direction (reflectAnswer z backwards) ⇒ direction (gives (vec 0f 0f (neg 1f)))) ∷
-    (direction (reflectAnswer (vec (whole 35) (neg 4f) (whole 28)) (vec 1f 4f (whole 8))) ⇒ 1 ∷ 0 ∷ 0 ∷ 0x3FE4_9F49_F49F_49F5 ∷ 0xBFE3_E93E_93E9_3E94 ∷ 0xBFDC_71C7_1C71_C71C ∷ []) ∷ []
+    (direction (reflectAnswer (vec (whole 35) (neg 4f) (whole 28)) (vec 1f 4f (whole 8)))
+    ⇒ 1 ∷ 0 ∷ 0 ∷ 0x3FE4_9F49_F49F_49F5 ∷ 0xBFE3_E93E_93E9_3E94 ∷ 0xBFDC_71C7_1C71_C71C ∷ []) ∷ []
 
 pub each-case : agree cases ≡ true
-unfolding cases bits _over_ decimal magnitude negative larger clamped infinite root neg add sub mul div lt le eq isNan ofBits ofInt dotOf overOf distance pointAt allFinite rayFinite bothFinite landingFinite hitFinite everyFinite coefficientsGood sagOf turnedIf negatedIf mirrored reflected reflectAnswer bent refracted refractAnswer curvatureOf fromRadius fromCurvature conicSag conicSagAnswer gradientNormal conicNormal conicNormalAnswer conicFinite landedWithin planeCrossing onSheet firstOn kept firstRoot secondRoot ascending quadraticOf signOf curvedCrossing conicCrossing normalAt hitAt meetRule meetAnswer arrivedAt movedBy passAt vertexPlane passesFrom newtonEnd passStart nextPass limitedPass powerSumFrom slopeSumFrom edgeRoot baseRoot baseSag baseSlope evenDepth evenSlopeFrom evenSlope radialSlopes evenSlopes lengthOf facingOf evenFacing evenNormal evenGood evenSagAnswer evenSlopeAnswer evenParaxial evenCrossingAnswer oddSag oddBaseSlope oddSlope oddNormal oddGood oddSagAnswer oddNormalAnswer numeratorOf biconicRadicand biconicDepth onAxis meridianSlope biconicSlopesAt biconicSlopes normalOf biconicNormal biconicGood biconicSagAnswer biconicSlopesAnswer biconicNormalAnswer biconicCrossingAnswer baseCurveRadicand baseCurveSag circleDepth toroidDepth slopeRadicand baseCurveSlope circleSlopesAt circleSlopes toroidSlopes toroidNormal toroidGood toroidSagAnswer toroidSlopesAnswer toroidCrossingAnswer surfaceEnd surfaceNormal onwardFrom turnRule
+unfolding cases bits _over_ decimal magnitude negative larger clamped infinite root neg add sub mul div lt le eq isNan
+    ofBits ofInt dotOf overOf distance pointAt allFinite rayFinite bothFinite landingFinite hitFinite everyFinite
+    coefficientsGood turnedIf negatedIf mirrored reflected reflectAnswer bent refracted refractAnswer curvatureOf
+    fromRadiusAnswer fromCurvatureAnswer conicSag conicSagAnswer gradientNormal conicNormal conicNormalAnswer
+    conicFinite landedWithin planeCrossing nearSag firstOn kept firstRoot secondRoot ascending quadraticOf signOf
+    curvedCrossing conicCrossing normalAt hitAt conicMeet conicMeetAnswer arrivedAt movedBy passAt vertexPlane
+    passesFrom newtonEnd passStart nextPass limitedPass powerSumFrom slopeSumFrom edgeRoot baseSag baseSlope evenSag
+    evenSlope radialSlopes evenSlopes lengthOf facingOf evenFacing evenNormal evenGood evenSagAnswer evenSlopeAnswer
+    evenParaxialAnswer evenCrossingAnswer oddSag oddBaseSlope oddSlope oddNormal oddGood oddSagAnswer oddNormalAnswer
+    numeratorOf biconicRadicand biconicSag onAxis meridianSlope biconicSlopesAt biconicSlopes normalOf biconicNormal
+    biconicGood biconicSagAnswer biconicSlopesAnswer biconicNormalAnswer biconicCrossingAnswer baseCurveRadicand
+    baseCurveSag circleSag toroidSag slopeRadicand baseCurveSlope circleSlopesAt circleSlopes toroidSlopes toroidNormal
+    toroidGood toroidSagAnswer toroidSlopesAnswer toroidCrossingAnswer surfaceEnd surfaceNormal onwardFrom turnAnswer
 each-case = refl

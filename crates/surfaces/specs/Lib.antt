@@ -1,10 +1,12 @@
 pub mod Types
-pub mod Told
+pub mod Refusal
 pub mod Snell
 pub mod Conic
+pub mod Sags
 pub mod Newton
 pub mod Asphere
 pub mod Biconic
 pub mod Surface
+pub mod Parts
 pub mod Edges
 pub mod Demand1

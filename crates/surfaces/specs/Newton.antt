@@ -7,17 +7,17 @@ use lib.Ieee.Scale.{finite}
 use Rattle.numbers.specs.Arithmetic.{_+₆₄_, _-₆₄_, _*₆₄_, _/₆₄_, _<₆₄_, if_then_else_, 0f, 1½, 1e-11, 1e-12, 1e-15}
 use Rattle.numbers.specs.Basic.{magnitude}
 use Rattle.surfaces.specs.Types.{distance, pointAt, landing, noLanding, landingFinite, rayFinite}
-use Rattle.surfaces.specs.Told.{handedOut, Told, Depths, Ended, gives, done, again, ended, noCrossing}
+use Rattle.surfaces.specs.Refusal.{handedOut, Told, Ended, gives, done, again, ended, noCrossing}
 use Rattle.surfaces.specs.Conic.{landedWithin, parallel}
 use Rattle.surfaces.specs.declared.types.Vec3.{Vec3}
 use Rattle.surfaces.specs.declared.types.Ray.{Ray}
 use Rattle.surfaces.specs.declared.types.Landing.{Landing}
 use Rattle.surfaces.specs.declared.types.Meridians.{Meridians}
 
--- What a kind brings: sag and slopes at a point whose distance from the axis is given; the semi-diameter; whether r is checked where the move was
--- small; and how many passes there may be.
+-- What a kind brings: sag and slopes at a point whose distance from the axis is given; the semi-diameter; whether r is
+-- checked where the move was small; and how many passes there may be.
 pub record Shape : Type 0 where
-  pub sag : Float → Vec3 → Told Depths
+  pub sag : Float → Vec3 → Told Float
   pub slopes : Float → Vec3 → Told Meridians
   pub semi : Float
   pub checksLast : Bool
@@ -45,7 +45,7 @@ passAt q vertex ray t =
     let p = pointAt ray t in
     let r = distance (p .x) (p .y) in
     let z = q .sag r p in
-    let f = p .z -₆₄ vertex -₆₄ z .value .sag in
+    let f = p .z -₆₄ vertex -₆₄ z .value in
     let m = q .slopes r p in
     if q .semi *₆₄ 1½ <₆₄ r then noCrossing 6 else
     if not (done z) then noCrossing 6 else
@@ -80,7 +80,8 @@ abbrev pub canBeMet : Bool → Float → Ray → Float → Bool
 canBeMet good semi ray vertex = rayFinite ray && finite vertex && good && not (semi <₆₄ 0f)
 
 abbrev pub newtonAnswer : Bool → Shape → Ray → Float → Told Landing
-newtonAnswer good q ray vertex = handedOut 2 noLanding landingFinite (canBeMet good (q .semi) ray vertex) (newtonEnd q vertex ray .answer)
+newtonAnswer good q ray vertex =
+    handedOut 2 noLanding landingFinite (canBeMet good (q .semi) ray vertex) (newtonEnd q vertex ray .answer)
 
 -- where a pass begins: the first at the vertex plane
 unfoldable pub passStart : Float → Ray → ℕ → Float → Float

@@ -4,9 +4,9 @@ use lib.Ieee.{Float, neg}
 use lib.Ieee.Scale.{finite}
 use Rattle.numbers.specs.Arithmetic.{_+₆₄_, _-₆₄_, _*₆₄_, _/₆₄_, _<₆₄_, _≤₆₄_, if_then_else_, 0f, 1f, 2f, 1e-30}
 use Rattle.numbers.specs.Basic.{larger, clamped}
-use Rattle.numbers.specs.Sqrt.{root}
+use Rattle.numbers.specs.Root.{root}
 use Rattle.surfaces.specs.Types.{vec, zeros, dotOf, squaredLength, overOf, allFinite}
-use Rattle.surfaces.specs.Told.{Told, gives, noDirection, checked9}
+use Rattle.surfaces.specs.Refusal.{Told, gives, noDirection, checked9}
 use Rattle.surfaces.specs.declared.types.Vec3.{Vec3}
 
 unfoldable pub turnedIf : Bool → Vec3 → Vec3

@@ -1,12 +1,12 @@
--- Vectors, rays and coefficients: what document 01 says of them once for all. Definitions only.
+-- Vectors, rays and coefficients (SCOPE B9, T6). Definitions only.
 use mathlib.Core.Bool.{Bool, true, false, _&&_}
 use mathlib.Core.List.{List, [], _∷_}
-use lib.Dec.{leb, eqb}
+use lib.Dec.{leb}
 use lib.ListN.{take}
-use lib.Ieee.{Float, binary64, neg, toBits}
+use lib.Ieee.{Float, neg}
 use lib.Ieee.Scale.{finite}
-use Rattle.numbers.specs.Arithmetic.{_+₆₄_, _*₆₄_, _/₆₄_, _<₆₄_, if_then_else_, 0f, 1f}
-use Rattle.numbers.specs.Sqrt.{root}
+use Rattle.numbers.specs.Arithmetic.{_+₆₄_, _*₆₄_, _/₆₄_, 0f, 1f}
+use Rattle.numbers.specs.Root.{root}
 use Rattle.surfaces.specs.declared.types.Vec3.{Vec3}
 use Rattle.surfaces.specs.declared.types.Ray.{Ray}
 use Rattle.surfaces.specs.declared.types.Landing.{Landing}
@@ -27,6 +27,9 @@ backwards = vec 0f 0f (neg 1f)
 unfoldable pub rayOf : Float → Float → Float → Float → Float → Float → Ray
 rayOf ox oy oz dx dy dz = record { origin = vec ox oy oz; direction = vec dx dy dz }
 
+abbrev pub noRay : Ray
+noRay = record { origin = zeros; direction = zeros }
+
 unfoldable pub dotOf : Vec3 → Vec3 → Float
 dotOf a b = a .x *₆₄ b .x +₆₄ a .y *₆₄ b .y +₆₄ a .z *₆₄ b .z
 
@@ -39,14 +42,6 @@ overOf a s = vec (a .x /₆₄ s) (a .y /₆₄ s) (a .z /₆₄ s)
 -- how far (x, y) is from the axis
 unfoldable pub distance : Float → Float → Float
 distance x y = root (x *₆₄ x +₆₄ y *₆₄ y)
-
--- two numbers above 0 with one pattern
-unfoldable pub sameAbove0 : Float → Float → Bool
-sameAbove0 x y = if (0f <₆₄ x) && (0f <₆₄ y) then eqb (toBits binary64 x) (toBits binary64 y) else false
-
--- the root of x, given that of y, which is the same where x is y
-unfoldable pub rootAgain : Float → Float → Float → Float
-rootAgain x y s = if sameAbove0 x y then s else root x
 
 -- the point at t: per component, origin + t · direction, the product rounded first
 unfoldable pub pointAt : Ray → Float → Vec3

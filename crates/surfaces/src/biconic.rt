@@ -1,17 +1,21 @@
-// Biconic and toroidal surfaces.
+// Biconic surfaces, which have a curvature and a conic constant for each meridian, and toroidal ones: a circle of
+// radius rx about an axis along y, rolled along a base curve in the y-z plane. Lengths are in mm, curvatures in 1/mm,
+// signed as a conic's.
 ghost use mathlib.Core.Path.{_≡_};
-ghost use Rattle.surfaces.specs.Told.{toldSag, toldPair, toldDirection, toldCrossing, toldDepth, toldBiconic, toldToroid};
+ghost use Rattle.surfaces.specs.Refusal.{toldSag, toldPair, toldDirection, toldCrossing, toldBiconic, toldToroid};
 ghost use Rattle.surfaces.specs.Conic.{radiusOf};
-ghost use Rattle.surfaces.specs.Biconic.{numeratorOf, biconicRadicand, biconicDepth, onAxis, meridianSlope, biconicSlopesAt, biconicSlopesFrom, biconicSlopes, biconicNormal, biconicGood, newBiconic, biconicSagAnswer, biconicSlopesAnswer, biconicNormalAnswer, biconicCrossingAnswer, biconicParaxial, baseCurveSag, toroidDepth, baseCurveSlope, circleDepth, circleSlopesAt, circleSlopes, toroidSlopesFrom, toroidSlopes, toroidNormal, toroidGood, newToroid, toroidSagAnswer, toroidSlopesAnswer, toroidNormalAnswer, toroidCrossingAnswer, normalOf, baseCurveRadicand, slopeRadicand};
-use crate::asphere::Depth;
-use crate::asphere::EdgeRoot;
-use crate::asphere::edge_root;
-use crate::asphere::edge_root_beside;
+ghost use Rattle.surfaces.specs.Biconic.{biconicSag, biconicSlopes, normalOf, biconicNormal, biconicGood};
+ghost use Rattle.surfaces.specs.Biconic.{newBiconicAnswer, biconicSagAnswer, biconicSlopesAnswer};
+ghost use Rattle.surfaces.specs.Biconic.{biconicNormalAnswer, biconicCrossingAnswer, biconicParaxialAnswer};
+ghost use Rattle.surfaces.specs.Biconic.{toroidSag, circleSlopes, toroidSlopes, toroidNormal, toroidGood};
+ghost use Rattle.surfaces.specs.Biconic.{newToroidAnswer, toroidSagAnswer, toroidSlopesAnswer};
+ghost use Rattle.surfaces.specs.Biconic.{toroidNormalAnswer, toroidCrossingAnswer};
 use crate::asphere::facing;
 use crate::asphere::length_of;
-use crate::asphere::sag_of;
 use crate::conic::radius_of;
-use crate::conic::sign_of;
+use crate::newton::Profile;
+use crate::newton::can_be_met;
+use crate::newton::newton;
 use crate::refusal::Crossing;
 use crate::refusal::Direction;
 use crate::refusal::Pair;
@@ -21,16 +25,24 @@ use crate::refusal::checked_crossing;
 use crate::refusal::checked_direction;
 use crate::refusal::checked_pair;
 use crate::refusal::checked_sag;
-use crate::surface::Profile;
-use crate::surface::can_be_met;
-use crate::surface::newton;
+use crate::sags::EdgeRoot;
+use crate::sags::base_curve_radicand;
+use crate::sags::base_curve_sag;
+use crate::sags::base_curve_slope;
+use crate::sags::biconic_depth;
+use crate::sags::biconic_radicand;
+use crate::sags::biconic_slopes_at;
+use crate::sags::circle_slopes_at;
+use crate::sags::edge_root;
+use crate::sags::numerator;
+use crate::sags::on_axis;
+use crate::sags::sag_of;
+use crate::sags::slope_radicand;
+use crate::sags::toroid_depth;
 use crate::types::Meridians;
 use crate::types::Ray;
 use crate::types::no_coefficients;
-use crate::types::root_again;
-use numbers::abs;
 use numbers::is_finite;
-use numbers::max;
 use numbers::sqrt;
 
 pub struct BiconicSurface {
@@ -42,115 +54,50 @@ pub struct BiconicSurface {
 }
 
 pub enum NewBiconic {
-    Made(BiconicSurface),
+    Given(BiconicSurface),
     Refused(Refusal),
 }
 
-fn numerator(cx: f64, cy: f64, x: f64, y: f64) -> f64
-    ensures { λ r. ⌜ r ≡ numeratorOf cx cy x y ⌝ }
+// The Rust's BiconicSurface::sag, (cx x² + cy y²) / (1 + √(1 - (1 + kx) cx² x² - (1 + ky) cy² y²)).
+fn raw_biconic_sag(cx: f64, kx: f64, cy: f64, ky: f64, x: f64, y: f64) -> Sag
+    ensures { λ z. ⌜ toldSag z ≡ biconicSag cx kx cy ky x y ⌝ }
 {
-    cx * x * x + cy * y * y
+    sag_of(biconic_depth(cx, kx, cy, ky, x, y))
 }
 
-fn biconic_radicand(cx: f64, kx: f64, cy: f64, ky: f64, x: f64, y: f64) -> f64
-    ensures { λ r. ⌜ r ≡ biconicRadicand cx kx cy ky x y ⌝ }
-{
-    1.0 - (1.0 + kx) * cx * cx * x * x - (1.0 + ky) * cy * cy * y * y
-}
-
-// The Rust's BiconicSurface::sag.
-pub(crate) fn biconic_depth(cx: f64, kx: f64, cy: f64, ky: f64, x: f64, y: f64) -> Depth
-    ensures { λ d. ⌜ toldDepth d ≡ biconicDepth cx kx cy ky x y ⌝ }
-{
-    if !(is_finite(x) & is_finite(y)) {
-        return Depth::Invalid;
-    }
-    let num = numerator(cx, cy, x, y);
-    match edge_root(biconic_radicand(cx, kx, cy, ky, x, y)) {
-        EdgeRoot::Is(s) => Depth::At(num / (1.0 + s), s, num, 0.0),
-        EdgeRoot::Outside => Depth::Outside,
-    }
-}
-
-fn on_axis(x: f64, y: f64) -> bool
-    ensures { λ b. ⌜ b ≡ onAxis x y ⌝ }
-{
-    (abs(x) < 1e-15) & (abs(y) < 1e-15)
-}
-
-// The slope along one meridian, of curvature c and conic constant k.
-fn meridian_slope(c: f64, k: f64, x: f64, num: f64, s: f64) -> f64
-    ensures { λ d. ⌜ d ≡ meridianSlope c k x num s ⌝ }
-{
-    let one_plus_s = 1.0 + s;
-    (2.0 * c * x) / one_plus_s + (num * (1.0 + k) * c * c * x) / (s * (one_plus_s * one_plus_s))
-}
-
-// The slopes off the axis, from the sag's numerator and root.
-fn biconic_slopes_at(cx: f64, kx: f64, cy: f64, ky: f64, x: f64, y: f64, num: f64, s: f64) -> Pair
-    ensures { λ m. ⌜ toldPair m ≡ biconicSlopesAt cx kx cy ky x y num s ⌝ }
-{
-    if s <= 1e-14 {
-        return Pair::Refused(Refusal::NumericalSingularity);
-    }
-    Pair::Both(Meridians {
-        x: meridian_slope(cx, kx, x, num, s),
-        y: meridian_slope(cy, ky, y, num, s),
-    })
-}
-
-// The slopes of a Newton pass, from the numerator and the root that the sag there had.
-pub(crate) fn biconic_slopes_from(
-    cx: f64,
-    kx: f64,
-    cy: f64,
-    ky: f64,
-    x: f64,
-    y: f64,
-    num: f64,
-    s: f64,
-) -> Pair
-    ensures { λ m. ⌜ toldPair m ≡ biconicSlopesFrom cx kx cy ky x y num s ⌝ }
-{
-    if on_axis(x, y) {
-        return Pair::Both(Meridians { x: 0.0, y: 0.0 });
-    }
-    biconic_slopes_at(cx, kx, cy, ky, x, y, num, s)
-}
-
-// The Rust's BiconicSurface::derivatives.
-fn biconic_slopes(cx: f64, kx: f64, cy: f64, ky: f64, x: f64, y: f64) -> Pair
+// The Rust's BiconicSurface::derivatives, ∂z/∂x and ∂z/∂y, which are 0 on the axis.
+fn raw_biconic_slopes(cx: f64, kx: f64, cy: f64, ky: f64, x: f64, y: f64) -> Pair
     ensures { λ m. ⌜ toldPair m ≡ biconicSlopes cx kx cy ky x y ⌝ }
 {
     if on_axis(x, y) {
-        return Pair::Both(Meridians { x: 0.0, y: 0.0 });
+        return Pair::Given(Meridians { x: 0.0, y: 0.0 });
     }
     match edge_root(biconic_radicand(cx, kx, cy, ky, x, y)) {
-        EdgeRoot::Is(s) => biconic_slopes_at(cx, kx, cy, ky, x, y, numerator(cx, cy, x, y), s),
+        EdgeRoot::Given(s) => biconic_slopes_at(cx, kx, cy, ky, x, y, numerator(cx, cy, x, y), s),
         EdgeRoot::Outside => Pair::Refused(Refusal::GeometryOutsideAperture),
     }
 }
 
-// The normal of these slopes, which has no test of its own.
+// The unit vector of (∂z/∂x, ∂z/∂y, -1), against the light; it has no test of its own.
 fn normal_of(m: Pair) -> Direction
     ensures { λ v. ⌜ toldDirection v ≡ normalOf (toldPair m) ⌝ }
 {
     match m {
-        Pair::Both(d) => Direction::To(facing(d.x, d.y, length_of(d.x, d.y))),
+        Pair::Given(d) => Direction::Given(facing(d.x, d.y, length_of(d.x, d.y))),
         Pair::Refused(e) => Direction::Refused(e),
     }
 }
 
 // The Rust's BiconicSurface::normal.
-pub(crate) fn biconic_normal(cx: f64, kx: f64, cy: f64, ky: f64, x: f64, y: f64) -> Direction
+pub(crate) fn raw_biconic_normal(cx: f64, kx: f64, cy: f64, ky: f64, x: f64, y: f64) -> Direction
     ensures { λ v. ⌜ toldDirection v ≡ biconicNormal cx kx cy ky x y ⌝ }
 {
-    normal_of(biconic_slopes(cx, kx, cy, ky, x, y))
+    normal_of(raw_biconic_slopes(cx, kx, cy, ky, x, y))
 }
 
 impl BiconicSurface {
     pub fn new(cx: f64, kx: f64, cy: f64, ky: f64, semi: f64) -> NewBiconic
-        ensures { λ r. ⌜ toldBiconic r ≡ newBiconic cx kx cy ky semi ⌝ }
+        ensures { λ r. ⌜ toldBiconic r ≡ newBiconicAnswer cx kx cy ky semi ⌝ }
     {
         let surface = BiconicSurface {
             cx,
@@ -162,7 +109,7 @@ impl BiconicSurface {
         if !surface.is_good() | (semi < 0.0) {
             return NewBiconic::Refused(Refusal::InvalidParameter);
         }
-        NewBiconic::Made(surface)
+        NewBiconic::Given(surface)
     }
 
     fn is_good(self) -> bool
@@ -193,7 +140,7 @@ impl BiconicSurface {
         if !(is_finite(x) & is_finite(y) & self.is_good()) {
             return Sag::Refused(Refusal::InvalidParameter);
         }
-        checked_sag(sag_of(biconic_depth(self.cx, self.kx, self.cy, self.ky, x, y)))
+        checked_sag(raw_biconic_sag(self.cx, self.kx, self.cy, self.ky, x, y))
     }
 
     pub fn derivatives(self, x: f64, y: f64) -> Pair
@@ -202,7 +149,7 @@ impl BiconicSurface {
         if !(is_finite(x) & is_finite(y) & self.is_good()) {
             return Pair::Refused(Refusal::InvalidParameter);
         }
-        checked_pair(biconic_slopes(self.cx, self.kx, self.cy, self.ky, x, y))
+        checked_pair(raw_biconic_slopes(self.cx, self.kx, self.cy, self.ky, x, y))
     }
 
     pub fn normal(self, x: f64, y: f64) -> Direction
@@ -211,7 +158,7 @@ impl BiconicSurface {
         if !(is_finite(x) & is_finite(y) & self.is_good()) {
             return Direction::Refused(Refusal::InvalidParameter);
         }
-        checked_direction(biconic_normal(self.cx, self.kx, self.cy, self.ky, x, y))
+        checked_direction(raw_biconic_normal(self.cx, self.kx, self.cy, self.ky, x, y))
     }
 
     pub fn intersect_ray(self, ray: Ray, vertex: f64) -> Crossing
@@ -220,19 +167,24 @@ impl BiconicSurface {
         if !can_be_met(self.is_good(), self.semi, ray, vertex) {
             return Crossing::Refused(Refusal::InvalidParameter);
         }
-        let profile = Profile::Biconic(self.cx, self.kx, self.cy, self.ky);
+        let profile = Profile::Biconic {
+            cx: self.cx,
+            kx: self.kx,
+            cy: self.cy,
+            ky: self.ky,
+        };
         let end = newton(profile, no_coefficients(), self.semi, vertex, ray);
         let crossing = end.crossing;
         checked_crossing(crossing)
     }
 
     pub fn paraxial_curvatures(self) -> Pair
-        ensures { λ m. ⌜ toldPair m ≡ biconicParaxial self ⌝ }
+        ensures { λ m. ⌜ toldPair m ≡ biconicParaxialAnswer self ⌝ }
     {
         if !self.is_good() {
             return Pair::Refused(Refusal::InvalidParameter);
         }
-        checked_pair(Pair::Both(Meridians {
+        checked_pair(Pair::Given(Meridians {
             x: self.cx,
             y: self.cy,
         }))
@@ -247,107 +199,18 @@ pub struct ToroidalSurface {
 }
 
 pub enum NewToroid {
-    Made(ToroidalSurface),
+    Given(ToroidalSurface),
     Refused(Refusal),
 }
 
-fn base_curve_radicand(cy: f64, ky: f64, y: f64) -> f64
-    ensures { λ r. ⌜ r ≡ baseCurveRadicand cy ky y ⌝ }
+// The Rust's ToroidalSurface::sag, rx - sign(rx) √((rx - w)² - x²) for the base curve's sag w at y.
+fn raw_toroid_sag(rx: f64, cy: f64, ky: f64, x: f64, y: f64) -> Sag
+    ensures { λ z. ⌜ toldSag z ≡ toroidSag rx cy ky x y ⌝ }
 {
-    1.0 - (1.0 + ky) * cy * cy * (y * y)
+    sag_of(toroid_depth(rx, cy, ky, x, y))
 }
 
-fn base_curve_sag(cy: f64, y: f64, s: f64) -> f64
-    ensures { λ z. ⌜ z ≡ baseCurveSag cy y s ⌝ }
-{
-    (cy * (y * y)) / (1.0 + s)
-}
-
-// About the base curve's sag, without its root: 1 / (1 + √(1 - u)) is 1/2 + u/8 + u²/16 + 5u³/128 + 7u⁴/256 + ... Nothing is promised of it.
-fn base_curve_guess(cy: f64, ky: f64, y: f64) -> f64 {
-    let u = (1.0 + ky) * cy * cy * (y * y);
-    let u2 = u * u;
-    cy * (y * y) * (0.5 + 0.125 * u + (0.0625 + 0.0390625 * u + 0.02734375 * u2) * u2)
-}
-
-// The rolled circle's sag, from its radius `term` at y. `near` is a guess at that radius, which shortens the wait and changes no answer.
-fn circle_depth(rx: f64, x: f64, term: f64, base: f64, near: f64) -> Depth
-    ensures { λ d. ⌜ toldDepth d ≡ circleDepth rx x term base ⌝ }
-{
-    match edge_root_beside(term * term - x * x, near * near - x * x) {
-        EdgeRoot::Is(s) => Depth::At(rx - sign_of(rx) * s, s, term, base),
-        EdgeRoot::Outside => Depth::Outside,
-    }
-}
-
-// The Rust's ToroidalSurface::sag, which has no test of its arguments.
-pub(crate) fn toroid_depth(rx: f64, cy: f64, ky: f64, x: f64, y: f64) -> Depth
-    ensures { λ d. ⌜ toldDepth d ≡ toroidDepth rx cy ky x y ⌝ }
-{
-    match edge_root(base_curve_radicand(cy, ky, y)) {
-        EdgeRoot::Is(b) => {
-            circle_depth(
-                rx,
-                x,
-                rx - base_curve_sag(cy, y, b),
-                b,
-                rx - base_curve_guess(cy, ky, y),
-            )
-        }
-        EdgeRoot::Outside => Depth::Outside,
-    }
-}
-
-// The radicand of the base curve's slope, which groups otherwise than the sag's.
-fn slope_radicand(cy: f64, ky: f64, y: f64) -> f64
-    ensures { λ r. ⌜ r ≡ slopeRadicand cy ky y ⌝ }
-{
-    max(1.0 - (1.0 + ky) * cy * cy * y * y, 0.0)
-}
-
-fn base_curve_slope(cy: f64, y: f64, s: f64) -> f64
-    ensures { λ d. ⌜ d ≡ baseCurveSlope cy y s ⌝ }
-{
-    if s > 1e-14 { (cy * y) / s } else { 0.0 }
-}
-
-// The slopes where the rolled circle has the root s and the base curve the slope d.
-fn circle_slopes_at(rx: f64, x: f64, term: f64, s: f64, d: f64) -> Meridians
-    ensures { λ m. ⌜ m ≡ circleSlopesAt rx x term s d ⌝ }
-{
-    let sign = sign_of(rx);
-    Meridians {
-        x: sign * x / s,
-        y: sign * (term / s) * d,
-    }
-}
-
-// The slopes of a Newton pass, from the circle's radius, its root and the base curve's root that the sag there had.
-pub(crate) fn toroid_slopes_from(
-    rx: f64,
-    cy: f64,
-    ky: f64,
-    x: f64,
-    y: f64,
-    term: f64,
-    s: f64,
-    b: f64,
-) -> Pair
-    ensures { λ m. ⌜ toldPair m ≡ toroidSlopesFrom rx cy ky x y term s b ⌝ }
-{
-    let radicand = term * term - x * x;
-    if radicand <= 1e-14 {
-        return Pair::Refused(Refusal::GeometryOutsideAperture);
-    }
-    let root = root_again(radicand, max(radicand, 0.0), s);
-    let base = root_again(
-        slope_radicand(cy, ky, y),
-        max(base_curve_radicand(cy, ky, y), 0.0),
-        b,
-    );
-    Pair::Both(circle_slopes_at(rx, x, term, root, base_curve_slope(cy, y, base)))
-}
-
+// The slopes where the rolled circle has the radius `term` at y; none at its edge.
 fn circle_slopes(rx: f64, cy: f64, ky: f64, x: f64, y: f64, term: f64) -> Pair
     ensures { λ m. ⌜ toldPair m ≡ circleSlopes rx cy ky x y term ⌝ }
 {
@@ -356,35 +219,35 @@ fn circle_slopes(rx: f64, cy: f64, ky: f64, x: f64, y: f64, term: f64) -> Pair
         return Pair::Refused(Refusal::GeometryOutsideAperture);
     }
     let d = base_curve_slope(cy, y, sqrt(slope_radicand(cy, ky, y)));
-    Pair::Both(circle_slopes_at(rx, x, term, sqrt(radicand), d))
+    Pair::Given(circle_slopes_at(rx, x, term, sqrt(radicand), d))
 }
 
-// The Rust's ToroidalSurface::derivatives.
-fn toroid_slopes(rx: f64, cy: f64, ky: f64, x: f64, y: f64) -> Pair
+// The Rust's ToroidalSurface::derivatives, ∂z/∂x and ∂z/∂y.
+fn raw_toroid_slopes(rx: f64, cy: f64, ky: f64, x: f64, y: f64) -> Pair
     ensures { λ m. ⌜ toldPair m ≡ toroidSlopes rx cy ky x y ⌝ }
 {
     match edge_root(base_curve_radicand(cy, ky, y)) {
-        EdgeRoot::Is(b) => circle_slopes(rx, cy, ky, x, y, rx - base_curve_sag(cy, y, b)),
+        EdgeRoot::Given(b) => circle_slopes(rx, cy, ky, x, y, rx - base_curve_sag(cy, y, b)),
         EdgeRoot::Outside => Pair::Refused(Refusal::GeometryOutsideAperture),
     }
 }
 
 // The Rust's ToroidalSurface::normal.
-pub(crate) fn toroid_normal(rx: f64, cy: f64, ky: f64, x: f64, y: f64) -> Direction
+pub(crate) fn raw_toroid_normal(rx: f64, cy: f64, ky: f64, x: f64, y: f64) -> Direction
     ensures { λ v. ⌜ toldDirection v ≡ toroidNormal rx cy ky x y ⌝ }
 {
-    normal_of(toroid_slopes(rx, cy, ky, x, y))
+    normal_of(raw_toroid_slopes(rx, cy, ky, x, y))
 }
 
 impl ToroidalSurface {
     pub fn new(rx: f64, cy: f64, ky: f64, semi: f64) -> NewToroid
-        ensures { λ r. ⌜ toldToroid r ≡ newToroid rx cy ky semi ⌝ }
+        ensures { λ r. ⌜ toldToroid r ≡ newToroidAnswer rx cy ky semi ⌝ }
     {
         let surface = ToroidalSurface { rx, cy, ky, semi };
         if !surface.is_good() | (semi < 0.0) {
             return NewToroid::Refused(Refusal::InvalidParameter);
         }
-        NewToroid::Made(surface)
+        NewToroid::Given(surface)
     }
 
     fn is_good(self) -> bool
@@ -405,7 +268,7 @@ impl ToroidalSurface {
         if !(is_finite(x) & is_finite(y) & self.is_good()) {
             return Sag::Refused(Refusal::InvalidParameter);
         }
-        checked_sag(sag_of(toroid_depth(self.rx, self.cy, self.ky, x, y)))
+        checked_sag(raw_toroid_sag(self.rx, self.cy, self.ky, x, y))
     }
 
     pub fn derivatives(self, x: f64, y: f64) -> Pair
@@ -414,7 +277,7 @@ impl ToroidalSurface {
         if !(is_finite(x) & is_finite(y) & self.is_good()) {
             return Pair::Refused(Refusal::InvalidParameter);
         }
-        checked_pair(toroid_slopes(self.rx, self.cy, self.ky, x, y))
+        checked_pair(raw_toroid_slopes(self.rx, self.cy, self.ky, x, y))
     }
 
     pub fn normal(self, x: f64, y: f64) -> Direction
@@ -423,7 +286,7 @@ impl ToroidalSurface {
         if !(is_finite(x) & is_finite(y) & self.is_good()) {
             return Direction::Refused(Refusal::InvalidParameter);
         }
-        checked_direction(toroid_normal(self.rx, self.cy, self.ky, x, y))
+        checked_direction(raw_toroid_normal(self.rx, self.cy, self.ky, x, y))
     }
 
     pub fn intersect_ray(self, ray: Ray, vertex: f64) -> Crossing
@@ -432,7 +295,11 @@ impl ToroidalSurface {
         if !can_be_met(self.is_good(), self.semi, ray, vertex) {
             return Crossing::Refused(Refusal::InvalidParameter);
         }
-        let profile = Profile::Toroid(self.rx, self.cy, self.ky);
+        let profile = Profile::Toroid {
+            rx: self.rx,
+            cy: self.cy,
+            ky: self.ky,
+        };
         let end = newton(profile, no_coefficients(), self.semi, vertex, ray);
         let crossing = end.crossing;
         checked_crossing(crossing)

@@ -1,13 +1,18 @@
-// Conic surfaces: constructors, radius, sag, normal, and where a ray meets one.
+// Conic surfaces: constructors, radius, sag, normal, and where a ray meets one. Light travels along +z. c is in 1/mm,
+// and above 0 where the centre of curvature lies behind the vertex, towards +z; k is 0 for a sphere, -1 for a
+// paraboloid.
 ghost use mathlib.Core.Path.{_≡_};
-ghost use mathlib.Core.Bool.{true};
 ghost use mathlib.Core.List.{[], _∷_};
-ghost use lib.Ieee.{neg};
 ghost use Rattle.numbers.specs.Arithmetic.{0f};
-ghost use Rattle.numbers.specs.Sqrt.{root};
+ghost use Rattle.numbers.specs.Root.{root};
 ghost use Rattle.surfaces.specs.Types.{noHit, hitFinite};
-ghost use Rattle.surfaces.specs.Told.{checked9, toldSag, toldDirection, toldCrossing, toldMeet, toldConic};
-ghost use Rattle.surfaces.specs.Conic.{fromRadius, fromCurvature, curvatureOf, withVertex, radiusOf, conicSag, conicSagAnswer, gradientNormal, conicNormal, conicNormalAnswer, conicFinite, landedWithin, planeCrossing, onSheet, SagNear, listed, kept, firstRoot, secondRoot, ascending, firstOn, quadraticOf, signOf, curvedCrossing, conicCrossing, normalAt, hitAt, meetRule, meetAnswer};
+ghost use Rattle.surfaces.specs.Refusal.{checked9, toldSag, toldDirection, toldCrossing, toldMeet, toldConic};
+ghost use Rattle.surfaces.specs.Conic.{curvatureOf, fromRadiusAnswer, fromCurvatureAnswer, withVertex, radiusOf};
+ghost use Rattle.surfaces.specs.Conic.{conicSag, conicSagAnswer, gradientNormal, conicNormal, conicFinite};
+ghost use Rattle.surfaces.specs.Conic.{conicNormalAnswer, landedWithin, planeCrossing, onSheet, firstOn, kept};
+ghost use Rattle.surfaces.specs.Conic.{firstRoot, secondRoot, ascending, quadraticOf, signOf, curvedCrossing};
+ghost use Rattle.surfaces.specs.Conic.{conicCrossing, normalAt, hitAt, conicMeet, conicMeetAnswer};
+ghost use Rattle.surfaces.specs.Parts.{listed, toldQuadratic};
 use crate::refusal::Crossing;
 use crate::refusal::Direction;
 use crate::refusal::Refusal;
@@ -24,7 +29,9 @@ use crate::types::dot;
 use crate::types::over;
 use crate::types::point_at;
 use crate::types::ray_finite;
-use crate::types::root_beside;
+use crate::waits::SHEET_TOLERANCE;
+use crate::waits::root_beside;
+use crate::waits::surely_near_sag;
 use numbers::abs;
 use numbers::is_finite;
 use numbers::is_infinite;
@@ -36,9 +43,6 @@ use numbers::sqrt;
 // The least radicand that the conic's sag takes.
 const CONIC_EDGE: f64 = 0.0;
 
-// How far from the sag the local z of a point on the sheet through the vertex may be.
-const SHEET_TOLERANCE: f64 = 1e-4;
-
 // Rust's vertex_z, curvature, conic_constant and semi_diam_mm.
 pub struct ConicSurface {
     pub vertex: f64,
@@ -48,12 +52,12 @@ pub struct ConicSurface {
 }
 
 pub enum NewConic {
-    Made(ConicSurface),
+    Given(ConicSurface),
     Refused(Refusal),
 }
 
 pub enum Meet {
-    Hit(HitRecord),
+    Given(HitRecord),
     Refused(Refusal),
 }
 
@@ -70,7 +74,7 @@ fn curvature_of(radius: f64) -> f64
 
 impl ConicSurface {
     pub fn from_radius(radius: f64, conic: f64, semi: f64) -> NewConic
-        ensures { λ r. ⌜ toldConic r ≡ fromRadius radius conic semi ⌝ }
+        ensures { λ r. ⌜ toldConic r ≡ fromRadiusAnswer radius conic semi ⌝ }
     {
         if is_nan(radius) | is_nan(conic) | is_nan(semi) {
             return NewConic::Refused(Refusal::NumericalSingularity);
@@ -81,7 +85,7 @@ impl ConicSurface {
         if abs(radius) < 1e-15 {
             return NewConic::Refused(Refusal::NumericalSingularity);
         }
-        NewConic::Made(ConicSurface {
+        NewConic::Given(ConicSurface {
             vertex: 0.0,
             curvature: curvature_of(radius),
             conic,
@@ -90,7 +94,7 @@ impl ConicSurface {
     }
 
     pub fn from_curvature(curvature: f64, conic: f64, semi: f64) -> NewConic
-        ensures { λ r. ⌜ toldConic r ≡ fromCurvature curvature conic semi ⌝ }
+        ensures { λ r. ⌜ toldConic r ≡ fromCurvatureAnswer curvature conic semi ⌝ }
     {
         if is_nan(curvature) | is_nan(conic) | is_nan(semi) {
             return NewConic::Refused(Refusal::NumericalSingularity);
@@ -98,7 +102,7 @@ impl ConicSurface {
         if semi < 0.0 {
             return NewConic::Refused(Refusal::InvalidSurface);
         }
-        NewConic::Made(ConicSurface {
+        NewConic::Given(ConicSurface {
             vertex: 0.0,
             curvature,
             conic,
@@ -107,13 +111,13 @@ impl ConicSurface {
     }
 
     pub fn sphere(radius: f64, semi: f64) -> NewConic
-        ensures { λ r. ⌜ toldConic r ≡ fromRadius radius 0f semi ⌝ }
+        ensures { λ r. ⌜ toldConic r ≡ fromRadiusAnswer radius 0f semi ⌝ }
     {
         ConicSurface::from_radius(radius, 0.0, semi)
     }
 
     pub fn plane(semi: f64) -> NewConic
-        ensures { λ r. ⌜ toldConic r ≡ fromCurvature 0f 0f semi ⌝ }
+        ensures { λ r. ⌜ toldConic r ≡ fromCurvatureAnswer 0f 0f semi ⌝ }
     {
         ConicSurface::from_curvature(0.0, 0.0, semi)
     }
@@ -143,15 +147,16 @@ pub(crate) fn radius_of(c: f64) -> f64
     if abs(c) < 1e-15 { 1.0 / 0.0 } else { 1.0 / c }
 }
 
-// The Rust's conic_sag. `near` is a guess at r * r, which shortens the wait for the root and changes no answer.
-fn raw_sag(r: f64, c: f64, k: f64, near: f64) -> Sag
+// The Rust's conic_sag, in mm from the vertex, with the sign of c: z = c r² / (1 + √(1 - (1 + k) c² r²)), where that
+// root is real. `near` is a guess at r * r, which shortens the wait for the root and changes no answer.
+fn raw_conic_sag(r: f64, c: f64, k: f64, near: f64) -> Sag
     ensures { λ s. ⌜ toldSag s ≡ conicSag r c k ⌝ }
 {
     if !(is_finite(r) & is_finite(c) & is_finite(k)) {
         return Sag::Refused(Refusal::NumericalSingularity);
     }
     if (abs(c) < 1e-15) | (abs(r) < 1e-15) {
-        return Sag::At(0.0);
+        return Sag::Given(0.0);
     }
     let r_sq = r * r;
     let radicand = 1.0 - (1.0 + k) * c * c * r_sq;
@@ -159,16 +164,17 @@ fn raw_sag(r: f64, c: f64, k: f64, near: f64) -> Sag
         return Sag::Refused(Refusal::GeometryOutsideAperture);
     }
     let root = root_beside(radicand, 1.0 - (1.0 + k) * c * c * near);
-    Sag::At((c * r_sq) / (1.0 + root))
+    Sag::Given((c * r_sq) / (1.0 + root))
 }
 
 pub fn conic_sag(r: f64, c: f64, k: f64) -> Sag
     ensures { λ s. ⌜ toldSag s ≡ conicSagAnswer r c k ⌝ }
 {
-    checked_sag(raw_sag(r, c, k, r * r))
+    checked_sag(raw_conic_sag(r, c, k, r * r))
 }
 
-// The normal, without the test of the arguments.
+// The unit vector of (c x, c y, (1 + k) c z - 1), with z from the vertex: half the gradient of c (x² + y²) - 2 z + (1 +
+// k) c z². It points towards -z at the vertex. There is none where the sag is not real.
 fn gradient_normal(p: Vec3, s: ConicSurface) -> Direction
     ensures { λ r. ⌜ toldDirection r ≡ gradientNormal p s ⌝ }
 {
@@ -188,11 +194,11 @@ fn gradient_normal(p: Vec3, s: ConicSurface) -> Direction
     if (n_sq < 1e-30) | !is_finite(n_sq) {
         return Direction::Refused(Refusal::NumericalSingularity);
     }
-    Direction::To(over(g, sqrt(n_sq)))
+    Direction::Given(over(g, sqrt(n_sq)))
 }
 
-// The Rust's conic_normal.
-fn raw_normal(p: Vec3, s: ConicSurface) -> Direction
+// The Rust's conic_normal, with its test of the arguments.
+fn raw_conic_normal(p: Vec3, s: ConicSurface) -> Direction
     ensures { λ r. ⌜ toldDirection r ≡ conicNormal p s ⌝ }
 {
     if !(all_finite(p) & is_finite(s.curvature) & is_finite(s.conic) & is_finite(s.vertex)) {
@@ -213,7 +219,7 @@ pub fn conic_normal(p: Vec3, s: ConicSurface) -> Direction
     if !(all_finite(p) & conic_finite(s)) {
         return Direction::Refused(Refusal::NumericalSingularity);
     }
-    checked_direction(raw_normal(p, s))
+    checked_direction(raw_conic_normal(p, s))
 }
 
 // At t, unless r is beyond the semi-diameter. `sq` is what r is the root of.
@@ -221,12 +227,16 @@ pub(crate) fn landed_within(t: f64, p: Vec3, sq: f64, semi: f64) -> Crossing
     ensures { λ x. ⌜ toldCrossing x ≡ landedWithin t p (root sq) semi ⌝ }
 {
     if root_exceeds(sq, semi) {
-        Crossing::Refused(Refusal::RayVignetted(sqrt(sq), semi))
+        Crossing::Refused(Refusal::RayVignetted {
+            r: sqrt(sq),
+            limit: semi,
+        })
     } else {
-        Crossing::At(Landing { t, point: p })
+        Crossing::Given(Landing { t, point: p })
     }
 }
 
+// t = (vertex - z) / dz, in lengths of the direction; a ray along the plane, or from behind it, misses.
 fn plane_crossing(ray: Ray, s: ConicSurface) -> Crossing
     ensures { λ x. ⌜ toldCrossing x ≡ planeCrossing ray s ⌝ }
 {
@@ -244,62 +254,16 @@ fn plane_crossing(ray: Ray, s: ConicSurface) -> Crossing
     landed_within(t, p, p.x * p.x + p.y * p.y, s.semi)
 }
 
-// Whether z is surely within the tolerance of the sag at r, the root of sq, for a curvature c above 0 and
-// b = (1 + k) * c * c. No root is worked out: r * r lies beside sq, the radicand's root beside `guess` if the squares
-// say so, and the sag between those that these bounds give. Other kinds of c and b, and numbers near 0 or beyond 1e9,
-// are left to the rule. 1e-9 and 1e-7 are wide for what rounding does and narrow beside the tolerance.
-fn surely_near(z: f64, c: f64, b: f64, sq: f64, guess: f64) -> bool
-    ensures { λ t. ⌜ (t ≡ true → SagNear z c b (root sq) × SagNear (neg z) (neg c) b (root sq)) ⌝ }
-{
-    let low = sq * 0.999999999;
-    let high = sq * 1.000000001;
-    let least = guess - 1e-7;
-    let most = guess + 1e-7;
-    let shallow = (c * low) / (1.0 + most);
-    let deep = (c * high) / (1.0 + least);
-    let above = (0.0 < z)
-        & (0.0 < c)
-        & (0.0 < b)
-        & (1e-15 * 1e-15 < sq)
-        & (0.0 < least)
-        & (least < most);
-    let small = (high < 1e9)
-        & (c * high < 1e9)
-        & (b * high < 1.0)
-        & (1.0 + most < 4.0)
-        & (deep < 1e9);
-    let rooted = (least * least < 1.0 - b * high) & (1.0 - b * low < most * most);
-    above & small & rooted & (z - shallow < SHEET_TOLERANCE) & (deep - z < SHEET_TOLERANCE)
-}
-
-// Whether a point surely lies on the sheet through the vertex. There the radicand's root is 1 - (1 + k) * c * z.
-fn surely_on_sheet(s: ConicSurface, p: Vec3, sq: f64) -> bool
-    ensures { λ t. ⌜ (t ≡ true → onSheet s p (root sq) ≡ true) ⌝ }
-{
-    let c = s.curvature;
-    let k = s.conic;
-    if !is_finite(k) | (abs(c) < 1e-15) {
-        return false;
-    }
-    let z = p.z - s.vertex;
-    let b = (1.0 + k) * c * c;
-    let guess = 1.0 - (1.0 + k) * c * z;
-    if c < 0.0 {
-        surely_near(-z, -c, b, sq, guess)
-    } else {
-        surely_near(z, c, b, sq, guess)
-    }
-}
-
 // Whether a point lies on the sheet through the vertex.
 fn on_sheet(s: ConicSurface, p: Vec3, sq: f64) -> bool
     ensures { λ b. ⌜ b ≡ onSheet s p (root sq) ⌝ }
 {
-    if surely_on_sheet(s, p, sq) {
+    let z = p.z - s.vertex;
+    if surely_near_sag(s.curvature, s.conic, z, sq) {
         return true;
     }
-    match raw_sag(sqrt(sq), s.curvature, s.conic, sq) {
-        Sag::At(z) => abs(p.z - s.vertex - z) < SHEET_TOLERANCE,
+    match raw_conic_sag(sqrt(sq), s.curvature, s.conic, sq) {
+        Sag::Given(sag) => abs(z - sag) < SHEET_TOLERANCE,
         Sag::Refused(_) => false,
     }
 }
@@ -331,14 +295,14 @@ fn cross_two(ray: Ray, s: ConicSurface, t: f64, u: f64) -> Crossing
 // A candidate, if it is kept.
 pub(crate) enum Root {
     Dropped,
-    At(f64),
+    Kept(f64),
 }
 
 fn keep(t: f64) -> Root
     ensures { λ r. ⌜ listed r ≡ kept t ⌝ }
 {
     if t > -1e-7 {
-        Root::At(max(t, 0.0))
+        Root::Kept(max(t, 0.0))
     } else {
         Root::Dropped
     }
@@ -368,8 +332,8 @@ fn cross_roots(ray: Ray, s: ConicSurface, x: Root, y: Root) -> Crossing
     ensures { λ r. ⌜ toldCrossing r ≡ firstOn ray s (ascending (listed x) (listed y)) ⌝ }
 {
     match x {
-        Root::At(t) => match y {
-            Root::At(u) => {
+        Root::Kept(t) => match y {
+            Root::Kept(u) => {
                 if u < t {
                     cross_two(ray, s, u, t)
                 } else {
@@ -379,13 +343,14 @@ fn cross_roots(ray: Ray, s: ConicSurface, x: Root, y: Root) -> Crossing
             Root::Dropped => cross_one(ray, s, t),
         },
         Root::Dropped => match y {
-            Root::At(u) => cross_one(ray, s, u),
+            Root::Kept(u) => cross_one(ray, s, u),
             Root::Dropped => Crossing::Refused(Refusal::RayMissedSurface),
         },
     }
 }
 
-// A t² + B t + C = 0 where the ray meets the whole quadric.
+// A t² + B t + C is c (x² + y²) - 2 z + (1 + k) c z² at the ray's point, with z from the vertex: 0 on the whole
+// quadric.
 pub(crate) struct Quadratic {
     pub a: f64,
     pub b: f64,
@@ -393,7 +358,7 @@ pub(crate) struct Quadratic {
 }
 
 fn quadratic_of(ray: Ray, s: ConicSurface) -> Quadratic
-    ensures { λ r. ⌜ r ≡ quadraticOf ray s ⌝ }
+    ensures { λ r. ⌜ toldQuadratic r ≡ quadraticOf ray s ⌝ }
 {
     let c = s.curvature;
     let k1 = 1.0 + s.conic;
@@ -416,6 +381,7 @@ pub(crate) fn sign_of(b: f64) -> f64
     if b >= 0.0 { 1.0 } else { -1.0 }
 }
 
+// The roots are C / q and q / A with q = -(B + sign(B) √(B² - 4 A C)) / 2, in which nothing cancels.
 fn curved_crossing(ray: Ray, s: ConicSurface) -> Crossing
     ensures { λ r. ⌜ toldCrossing r ≡ curvedCrossing ray s ⌝ }
 {
@@ -429,7 +395,7 @@ fn curved_crossing(ray: Ray, s: ConicSurface) -> Crossing
 }
 
 // The Rust's intersect_conic up to the normal.
-pub(crate) fn crossing(ray: Ray, s: ConicSurface) -> Crossing
+pub(crate) fn conic_crossing(ray: Ray, s: ConicSurface) -> Crossing
     ensures { λ r. ⌜ toldCrossing r ≡ conicCrossing ray s ⌝ }
 {
     if abs(s.curvature) < 1e-15 {
@@ -444,9 +410,9 @@ pub(crate) fn normal_at(p: Vec3, s: ConicSurface) -> Direction
     ensures { λ r. ⌜ toldDirection r ≡ normalAt p s ⌝ }
 {
     if abs(s.curvature) < 1e-15 {
-        Direction::To(backwards())
+        Direction::Given(backwards())
     } else {
-        raw_normal(p, s)
+        raw_conic_normal(p, s)
     }
 }
 
@@ -465,14 +431,14 @@ fn hit_at(ray: Ray, l: Landing, n: Vec3) -> HitRecord
 }
 
 // The Rust's intersect_conic.
-fn raw_meet(ray: Ray, s: ConicSurface) -> Meet
-    ensures { λ r. ⌜ toldMeet r ≡ meetRule ray s ⌝ }
+fn raw_intersect_conic(ray: Ray, s: ConicSurface) -> Meet
+    ensures { λ r. ⌜ toldMeet r ≡ conicMeet ray s ⌝ }
 {
-    match crossing(ray, s) {
-        Crossing::At(l) => {
+    match conic_crossing(ray, s) {
+        Crossing::Given(l) => {
             let p = l.point;
             match normal_at(p, s) {
-                Direction::To(n) => Meet::Hit(hit_at(ray, l, n)),
+                Direction::Given(n) => Meet::Given(hit_at(ray, l, n)),
                 Direction::Refused(e) => Meet::Refused(e),
             }
         }
@@ -484,7 +450,7 @@ fn checked_meet(a: Meet) -> Meet
     ensures { λ r. ⌜ toldMeet r ≡ checked9 noHit hitFinite (toldMeet a) ⌝ }
 {
     match a {
-        Meet::Hit(h) => {
+        Meet::Given(h) => {
             let p = h.point;
             let n = h.normal;
             if is_finite(h.t) & all_finite(p) & all_finite(n) {
@@ -498,7 +464,7 @@ fn checked_meet(a: Meet) -> Meet
 }
 
 pub fn intersect_conic(ray: Ray, s: ConicSurface) -> Meet
-    ensures { λ r. ⌜ toldMeet r ≡ meetAnswer ray s ⌝ }
+    ensures { λ r. ⌜ toldMeet r ≡ conicMeetAnswer ray s ⌝ }
 {
     if !(ray_finite(ray) & conic_finite(s)) {
         return Meet::Refused(Refusal::InvalidParameter);
@@ -506,5 +472,5 @@ pub fn intersect_conic(ray: Ray, s: ConicSurface) -> Meet
     if s.semi < 0.0 {
         return Meet::Refused(Refusal::InvalidSurface);
     }
-    checked_meet(raw_meet(ray, s))
+    checked_meet(raw_intersect_conic(ray, s))
 }

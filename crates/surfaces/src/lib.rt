@@ -1,12 +1,15 @@
-// Optical surfaces as in the Rust: where a ray meets one, and how it goes on. No function asks anything of its caller, and each says
-// what it answers to every argument.
+// Optical surfaces as in the Rust: where a ray meets one, and how it goes on. No function asks anything of its caller,
+// and each says what it answers to every argument.
 mod asphere;
 mod biconic;
 mod conic;
+mod newton;
 mod refusal;
+mod sags;
 mod snell;
 mod surface;
 mod types;
+mod waits;
 
 pub use asphere::EvenAsphere;
 pub use asphere::NewEven;
@@ -22,21 +25,34 @@ pub use conic::NewConic;
 pub use conic::conic_normal;
 pub use conic::conic_sag;
 pub use conic::intersect_conic;
+pub use newton::Passed;
+pub use newton::STEPS_BICONIC;
+pub use newton::STEPS_EVEN_ASPHERE;
+pub use newton::STEPS_TOROID;
+pub use refusal::ACCEPTED;
+pub use refusal::Acceptance;
+pub use refusal::BAD_PARAMETER;
 pub use refusal::Crossing;
 pub use refusal::Direction;
 pub use refusal::Line;
+pub use refusal::MISSED;
+pub use refusal::NEGATIVE_SEMI_DIAMETER;
+pub use refusal::NOT_FINITE;
 pub use refusal::Number;
+pub use refusal::OUTSIDE_DOMAIN;
 pub use refusal::Pair;
 pub use refusal::Refusal;
+pub use refusal::SINGULAR;
 pub use refusal::Sag;
-pub use refusal::Verdict;
+pub use refusal::TOTAL_REFLECTION;
+pub use refusal::VIGNETTED;
 pub use refusal::line_of;
 pub use snell::reflect;
 pub use snell::snell_refract;
 pub use surface::Boundary;
 pub use surface::Kind;
 pub use surface::Leaving;
-pub use surface::Passed;
+pub use surface::STEPS_CONIC;
 pub use surface::Surface;
 pub use surface::Turned;
 pub use surface::limit;
@@ -45,9 +61,12 @@ pub use surface::turn;
 pub use types::Coefficients;
 pub use types::HitRecord;
 pub use types::Landing;
+pub use types::MOST_COEFFICIENTS;
 pub use types::Meridians;
 pub use types::Ray;
 pub use types::Vec3;
 pub use types::all_finite;
+pub use types::no_coefficients;
+pub use types::no_ray;
 pub use types::ray_finite;
 pub use types::ray_of;

@@ -3,26 +3,46 @@ ghost use mathlib.Core.Path.{_≡_};
 ghost use lib.Ieee.Scale.{finite};
 ghost use Rattle.numbers.specs.Arithmetic.{0f};
 ghost use Rattle.surfaces.specs.Types.{zeros, allFinite, noMeridians, bothFinite, noLanding, landingFinite};
-ghost use Rattle.surfaces.specs.Told.{plain, lineOf, checked9, toldNumber, toldSag, toldPair, toldDirection, toldCrossing};
+ghost use Rattle.surfaces.specs.Refusal.{plain, checked9, lineOf, toldNumber, toldSag, toldPair, toldDirection};
+ghost use Rattle.surfaces.specs.Refusal.{toldCrossing};
 use crate::types::Landing;
 use crate::types::Meridians;
 use crate::types::Vec3;
 use crate::types::all_finite;
 use numbers::is_finite;
 
-// Document 01's numbers 2 to 9, under the names of Rust's OpticsError; NotFinite is added.
+// The numbers of SCOPE's table (T1) that a surface's answer has: 1 for a value, else why there is none.
+pub const ACCEPTED: u8 = 1;
+
+pub const BAD_PARAMETER: u8 = 2;
+
+pub const NEGATIVE_SEMI_DIAMETER: u8 = 3;
+
+pub const SINGULAR: u8 = 4;
+
+pub const OUTSIDE_DOMAIN: u8 = 5;
+
+pub const MISSED: u8 = 6;
+
+pub const VIGNETTED: u8 = 7;
+
+pub const TOTAL_REFLECTION: u8 = 8;
+
+pub const NOT_FINITE: u8 = 9;
+
+// The numbers 2 to 9, under the names of Rust's OpticsError; NotFinite is added.
 pub enum Refusal {
     InvalidParameter,
     InvalidSurface,
     NumericalSingularity,
     GeometryOutsideAperture,
     RayMissedSurface,
-    RayVignetted(f64, f64),
+    RayVignetted { r: f64, limit: f64 },
     TotalInternalReflection,
     NotFinite,
 }
 
-// A line of document 01's table: its number, and r and the semi-diameter, which a 7 names and no other.
+// A line of SCOPE's table (T1): its number, and r and the semi-diameter, which a 7 names and no other.
 pub struct Line {
     pub number: u8,
     pub r: f64,
@@ -43,49 +63,49 @@ pub fn line_of(e: Refusal) -> Line
     ensures { λ l. ⌜ l ≡ lineOf e ⌝ }
 {
     match e {
-        Refusal::InvalidParameter => plain(2),
-        Refusal::InvalidSurface => plain(3),
-        Refusal::NumericalSingularity => plain(4),
-        Refusal::GeometryOutsideAperture => plain(5),
-        Refusal::RayMissedSurface => plain(6),
-        Refusal::RayVignetted(r, limit) => Line {
-            number: 7,
+        Refusal::InvalidParameter => plain(BAD_PARAMETER),
+        Refusal::InvalidSurface => plain(NEGATIVE_SEMI_DIAMETER),
+        Refusal::NumericalSingularity => plain(SINGULAR),
+        Refusal::GeometryOutsideAperture => plain(OUTSIDE_DOMAIN),
+        Refusal::RayMissedSurface => plain(MISSED),
+        Refusal::RayVignetted { r, limit } => Line {
+            number: VIGNETTED,
             r,
             limit,
         },
-        Refusal::TotalInternalReflection => plain(8),
-        Refusal::NotFinite => plain(9),
+        Refusal::TotalInternalReflection => plain(TOTAL_REFLECTION),
+        Refusal::NotFinite => plain(NOT_FINITE),
     }
 }
 
 // Whether a surface is accepted that stands beside, since no enum holds an array.
-pub enum Verdict {
-    Accepted,
+pub enum Acceptance {
+    Given,
     Refused(Refusal),
 }
 
 pub enum Number {
-    Is(f64),
+    Given(f64),
     Refused(Refusal),
 }
 
 pub enum Sag {
-    At(f64),
+    Given(f64),
     Refused(Refusal),
 }
 
 pub enum Pair {
-    Both(Meridians),
+    Given(Meridians),
     Refused(Refusal),
 }
 
 pub enum Direction {
-    To(Vec3),
+    Given(Vec3),
     Refused(Refusal),
 }
 
 pub enum Crossing {
-    At(Landing),
+    Given(Landing),
     Refused(Refusal),
 }
 
@@ -93,7 +113,7 @@ pub(crate) fn checked_number(a: Number) -> Number
     ensures { λ r. ⌜ toldNumber r ≡ checked9 0f finite (toldNumber a) ⌝ }
 {
     match a {
-        Number::Is(x) => {
+        Number::Given(x) => {
             if is_finite(x) {
                 a
             } else {
@@ -108,7 +128,7 @@ pub(crate) fn checked_sag(a: Sag) -> Sag
     ensures { λ r. ⌜ toldSag r ≡ checked9 0f finite (toldSag a) ⌝ }
 {
     match a {
-        Sag::At(z) => {
+        Sag::Given(z) => {
             if is_finite(z) {
                 a
             } else {
@@ -123,7 +143,7 @@ pub(crate) fn checked_pair(a: Pair) -> Pair
     ensures { λ r. ⌜ toldPair r ≡ checked9 noMeridians bothFinite (toldPair a) ⌝ }
 {
     match a {
-        Pair::Both(m) => {
+        Pair::Given(m) => {
             if is_finite(m.x) & is_finite(m.y) {
                 a
             } else {
@@ -138,7 +158,7 @@ pub(crate) fn checked_direction(a: Direction) -> Direction
     ensures { λ r. ⌜ toldDirection r ≡ checked9 zeros allFinite (toldDirection a) ⌝ }
 {
     match a {
-        Direction::To(v) => {
+        Direction::Given(v) => {
             if all_finite(v) {
                 a
             } else {
@@ -153,7 +173,7 @@ pub(crate) fn checked_crossing(a: Crossing) -> Crossing
     ensures { λ r. ⌜ toldCrossing r ≡ checked9 noLanding landingFinite (toldCrossing a) ⌝ }
 {
     match a {
-        Crossing::At(l) => {
+        Crossing::Given(l) => {
             let p = l.point;
             if is_finite(l.t) & all_finite(p) {
                 a

@@ -1,7 +1,9 @@
-// Reflection and refraction of a direction at a surface normal.
+// Reflection and refraction of a direction at a surface normal, which is turned against the light where it is not so
+// given.
 ghost use mathlib.Core.Path.{_≡_};
-ghost use Rattle.surfaces.specs.Told.{toldDirection};
-ghost use Rattle.surfaces.specs.Snell.{turnedIf, negatedIf, mirrored, reflected, reflectAnswer, bent, refracted, refractAnswer};
+ghost use Rattle.surfaces.specs.Refusal.{toldDirection};
+ghost use Rattle.surfaces.specs.Snell.{turnedIf, negatedIf, mirrored, reflected, reflectAnswer, bent, refracted};
+ghost use Rattle.surfaces.specs.Snell.{refractAnswer};
 use crate::refusal::Direction;
 use crate::refusal::Refusal;
 use crate::refusal::checked_direction;
@@ -34,7 +36,7 @@ fn negated_if(b: bool, x: f64) -> f64
     if b { -x } else { x }
 }
 
-// The unit vector i, thrown back at a surface with the unit normal n.
+// i - 2 (i · n) n, of unit vectors, n against i.
 fn mirror(i: Vec3, n: Vec3) -> Vec3
     ensures { λ r. ⌜ r ≡ mirrored i n ⌝ }
 {
@@ -49,7 +51,7 @@ fn mirror(i: Vec3, n: Vec3) -> Vec3
     }
 }
 
-// The Rust's reflect.
+// The Rust's reflect: of unit vectors along its arguments, of which neither may be about 0.
 pub(crate) fn raw_reflect(incident: Vec3, normal: Vec3) -> Direction
     ensures { λ r. ⌜ toldDirection r ≡ reflected incident normal ⌝ }
 {
@@ -61,7 +63,7 @@ pub(crate) fn raw_reflect(incident: Vec3, normal: Vec3) -> Direction
     if (i_sq < 1e-30) | (n_sq < 1e-30) {
         return Direction::Refused(Refusal::NumericalSingularity);
     }
-    Direction::To(mirror(over(incident, sqrt(i_sq)), over(normal, sqrt(n_sq))))
+    Direction::Given(mirror(over(incident, sqrt(i_sq)), over(normal, sqrt(n_sq))))
 }
 
 pub fn reflect(incident: Vec3, normal: Vec3) -> Direction
@@ -70,7 +72,8 @@ pub fn reflect(incident: Vec3, normal: Vec3) -> Direction
     checked_direction(raw_reflect(incident, normal))
 }
 
-// The unit vector i, bent at a surface with the unit normal n, from a medium of eta times the index behind it.
+// η i + (η cos - √k) n with k = 1 - η² (1 - cos²), of unit vectors, n against i, where cos = -i · n and η = n1 / n2 is
+// the index before the surface over that behind it. Below 0 for k nothing passes: total internal reflection.
 fn bend(i: Vec3, n: Vec3, eta: f64) -> Direction
     ensures { λ r. ⌜ toldDirection r ≡ bent i n eta ⌝ }
 {
@@ -83,15 +86,15 @@ fn bend(i: Vec3, n: Vec3, eta: f64) -> Direction
         return Direction::Refused(Refusal::TotalInternalReflection);
     }
     let w = eta * cos_i - sqrt(k);
-    Direction::To(Vec3 {
+    Direction::Given(Vec3 {
         x: eta * i.x + w * m.x,
         y: eta * i.y + w * m.y,
         z: eta * i.z + w * m.z,
     })
 }
 
-// The Rust's snell_refract.
-pub(crate) fn raw_refract(incident: Vec3, normal: Vec3, n1: f64, n2: f64) -> Direction
+// The Rust's snell_refract: of unit vectors along its arguments, of which neither may be about 0, and indices above 0.
+pub(crate) fn raw_snell_refract(incident: Vec3, normal: Vec3, n1: f64, n2: f64) -> Direction
     ensures { λ r. ⌜ toldDirection r ≡ refracted incident normal n1 n2 ⌝ }
 {
     if !(all_finite(incident) & all_finite(normal) & is_finite(n1) & is_finite(n2)) {
@@ -115,5 +118,5 @@ pub(crate) fn raw_refract(incident: Vec3, normal: Vec3, n1: f64, n2: f64) -> Dir
 pub fn snell_refract(incident: Vec3, normal: Vec3, n1: f64, n2: f64) -> Direction
     ensures { λ r. ⌜ toldDirection r ≡ refractAnswer incident normal n1 n2 ⌝ }
 {
-    checked_direction(raw_refract(incident, normal, n1, n2))
+    checked_direction(raw_snell_refract(incident, normal, n1, n2))
 }

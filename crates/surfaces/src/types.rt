@@ -1,10 +1,9 @@
 // Vectors, rays and what a surface is made of, by value. Lengths are in millimetres.
 ghost use mathlib.Core.Path.{_≡_};
 ghost use lib.ListN.{take};
-ghost use Rattle.numbers.specs.Sqrt.{root};
-ghost use Rattle.surfaces.specs.Types.{rayOf, backwards, dotOf, overOf, allFinite, rayFinite, pointAt, sameAbove0, rootAgain, everyFinite, coefficientsGood, noCoefficients};
+ghost use Rattle.surfaces.specs.Types.{backwards, rayOf, noRay, dotOf, overOf, pointAt, allFinite, rayFinite};
+ghost use Rattle.surfaces.specs.Types.{noCoefficients, everyFinite, coefficientsGood};
 use numbers::is_finite;
-use numbers::sqrt;
 
 pub struct Vec3 {
     pub x: f64,
@@ -34,6 +33,13 @@ pub fn ray_of(ox: f64, oy: f64, oz: f64, dx: f64, dy: f64, dz: f64) -> Ray
     }
 }
 
+// A ray that is none, where an answer has no ray.
+pub fn no_ray() -> Ray
+    ensures { λ r. ⌜ r ≡ noRay ⌝ }
+{
+    ray_of(0.0, 0.0, 0.0, 0.0, 0.0, 0.0)
+}
+
 // Where a ray comes to a surface: so far along the ray, at this point.
 pub struct Landing {
     pub t: f64,
@@ -53,10 +59,12 @@ pub struct Meridians {
     pub y: f64,
 }
 
+pub const MOST_COEFFICIENTS: usize = 8;
+
 // The first `count` values are the coefficients, and the others are not read.
 pub struct Coefficients {
     pub count: usize,
-    pub values: [f64; 8],
+    pub values: [f64; MOST_COEFFICIENTS],
 }
 
 // Against the light, which travels along z.
@@ -110,37 +118,12 @@ pub(crate) fn point_at(ray: Ray, t: f64) -> Vec3
     }
 }
 
-// Whether two numbers are above zero and have one pattern. A NaN has no pattern to rely on.
-fn same(x: f64, y: f64) -> bool
-    ensures { λ r. ⌜ r ≡ sameAbove0 x y ⌝ }
-{
-    if (0.0 < x) & (0.0 < y) {
-        f64::to_bits(x) == f64::to_bits(y)
-    } else {
-        false
-    }
-}
-
-// The root of x, given that of y: the same where x is y.
-pub(crate) fn root_again(x: f64, y: f64, s: f64) -> f64
-    ensures { λ r. ⌜ r ≡ rootAgain x y s ⌝ }
-{
-    if same(x, y) { s } else { sqrt(x) }
-}
-
-// The root of x. Where y is the same number and known earlier, nobody waits for x.
-pub(crate) fn root_beside(x: f64, y: f64) -> f64
-    ensures { λ r. ⌜ r ≡ root x ⌝ }
-{
-    root_again(x, y, sqrt(y))
-}
-
-// Whether the first n values, 8 at most, are finite.
-fn first_finite(values: [f64; 8], n: usize) -> bool
+// Whether the first n values, as many as there are, are finite.
+fn first_finite(values: [f64; MOST_COEFFICIENTS], n: usize) -> bool
     ensures { λ r. ⌜ r ≡ everyFinite (take n values) ⌝ }
 {
     let mut i = 0usize;
-    while i < 8usize {
+    while i < MOST_COEFFICIENTS {
         if n <= i {
             return true;
         }
@@ -157,14 +140,14 @@ pub(crate) fn coefficients_good(a: Coefficients) -> bool
     ensures { λ r. ⌜ r ≡ coefficientsGood a ⌝ }
 {
     let values = a.values;
-    (a.count <= 8usize) & first_finite(values, a.count)
+    (a.count <= MOST_COEFFICIENTS) & first_finite(values, a.count)
 }
 
-pub(crate) fn no_coefficients() -> Coefficients
+pub fn no_coefficients() -> Coefficients
     ensures { λ a. ⌜ a ≡ noCoefficients ⌝ }
 {
     Coefficients {
         count: 0usize,
-        values: [0.0; 8],
+        values: [0.0; MOST_COEFFICIENTS],
     }
 }

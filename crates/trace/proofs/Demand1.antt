@@ -13,20 +13,20 @@ use lib.Ieee.Scale.{finite}
 use borrow.Author.Tests.{ltb-false, le-ltb}
 use Rattle.numbers.specs.Arithmetic.{_≤₆₄_, if_then_else_, 0f}
 use Rattle.surfaces.specs.Types.{rayFinite}
-use Rattle.surfaces.specs.Demand1.{oneOf}
+use Rattle.numbers.specs.Arithmetic.{oneOf}
 use Rattle.surfaces.specs.declared.types.Ray.{Ray}
-use Rattle.surfaces.proofs.Choice.{either}
-use Rattle.surfaces.proofs.Demand1.{each}
-use Rattle.recipe.specs.Scan.{Item, Scan, refused, items, scan, notes, nothing, itemsIn}
+use Rattle.numbers.proofs.Choice.{either}
+use Rattle.numbers.proofs.Lists.{each}
+use Rattle.recipe.specs.Scan.{Item, Scan, refused, items, notes, nothing, itemsIn}
 use Rattle.recipe.specs.Source.{sourceBytes, sourceOf}
-use Rattle.recipe.proofs.Records.{Refuses}
 use Rattle.recipe.proofs.Scans.{Scanned, full, stopped, fails, scanned, Sound, scan-sound}
 use Rattle.trace.specs.declared.state.State.{State}
 use Rattle.trace.specs.Leg.{width}
 use Rattle.trace.specs.State.{held, advance, fitsOf}
-use Rattle.trace.specs.Trace.{mostRecords, Reply, reply, recipeOf, itemsOf, blank, refusedAnswer, refusedReply, admission, admitted, startAt, startOf, startFileOf, accept, continueOn, continueOf, wholeOf}
+use Rattle.trace.specs.Run.{mostRecords, Reply, reply, recipeOf, itemsOf, blank, refusedAnswer, refusedReply}
+use Rattle.trace.specs.Run.{admission, admitted, startAt, startOf, accept, continueOn, continueOf, wholeOf}
+use Rattle.trace.specs.File.{startFileOf}
 use Rattle.trace.specs.Demand1.{GoodUpTo, none, more, Answers, Blanked, Unchanged, Refused12, Unfit, Demand1}
-use Rattle.trace.proofs.Starts.{no-items}
 use Rattle.trace.proofs.Unfits.{unfit, fits-all}
 
 -- a start's numbers, and a continuation's
@@ -46,10 +46,12 @@ admission-number : (ray : Ray) (index : Float) (room count : ℕ) → oneOf begu
 unfolding admission oneOf
 admission-number ray index room count =
     let Begun : ℕ → Type 0 = λ n. oneOf begun n ≡ true in
-    either Begun (not (rayFinite ray && finite index)) _ _ refl (either Begun (index ≤₆₄ 0f) _ _ refl (either Begun (ltb room (width * count)) _ _ refl refl))
+    either Begun (not (rayFinite ray && finite index)) _ _ refl
+    (either Begun (index ≤₆₄ 0f) _ _ refl (either Begun (ltb room (width * count)) _ _ refl refl))
 
 -- a start on the bytes b, whatever an accepted one leads to
-module _ (b : List ℕ) (base : ℕ) (ray : Ray) (index : Float) (z : List Float) (f : List Item → Reply) (good : (l : List Item) → (f l .answer .number ≡ 1) × (f l .answer .place ≡ 0)) where
+module _ (b : List ℕ) (base : ℕ) (ray : Ray) (index : Float) (z : List Float) (f : List Item → Reply)
+    (good : (l : List Item) → (f l .answer .number ≡ 1) × (f l .answer .place ≡ 0)) where
   abbrev Place : ℕ → Type 0
   Place p = (p ≡ 0) ⊎ ((q : ℕ) × (p ≡ base + q) × GoodUpTo b q)
 
@@ -61,35 +63,41 @@ module _ (b : List ℕ) (base : ℕ) (ray : Ray) (index : Float) (z : List Float
   number-by (refused n p) h = each (oneOf begun) (2 ∷ 3 ∷ 4 ∷ 10 ∷ []) n refl h
   number-by (items l) h =
       let n = admission ray index (length (blank z)) (length l) in
-      either (λ (q : Reply). oneOf begun (q .answer .number) ≡ true) (eqb n 1) _ _ (rw (good l .0)) (admission-number ray index (length (blank z)) (length l))
+      let Begun : Reply → Type 0 = λ q. oneOf begun (q .answer .number) ≡ true in
+      either Begun (eqb n 1) _ _ (rw (good l .0)) (admission-number ray index (length (blank z)) (length l))
 
-  pub number : oneOf begun (r .answer .number) ≡ true
+  number : oneOf begun (r .answer .number) ≡ true
   number = number-by (recipeOf b) (scan-sound b mostRecords 0)
 
   place-by : (s : Scan) → Scanned b mostRecords 0 s → Place (admitted s base ray index (blank z) f .answer .place)
   unfolding refusedAnswer
   place-by (refused n p) h = inr (p, refl, leads none h)
-  place-by (items l) h = either (λ (q : Reply). Place (q .answer .place)) (eqb (admission ray index (length (blank z)) (length l)) 1) _ _ (inl (good l .1)) (inl refl)
+  place-by (items l) h =
+      let n = admission ray index (length (blank z)) (length l) in
+      either (λ (q : Reply). Place (q .answer .place)) (eqb n 1) _ _ (inl (good l .1)) (inl refl)
 
-  pub place : Place (r .answer .place)
+  place : Place (r .answer .place)
   place = place-by (recipeOf b) (scanned b mostRecords 0)
 
-  refused-by : (s : Scan) → admitted s base ray index (blank z) f .answer .number ≢ 1 → Blanked z (admitted s base ray index (blank z) f)
+  refused-by : (s : Scan) → admitted s base ray index (blank z) f .answer .number ≢ 1
+      → Blanked z (admitted s base ray index (blank z) f)
   unfolding refusedAnswer
   refused-by (refused n p) h = record { buffer = refl; state = refl }
   refused-by (items l) h = by (eqb (admission ray index (length (blank z)) (length l)) 1) h
     where
       by : (t : Bool) → let n = admission ray index (length (blank z)) (length l) in
-          (if t then f l else refusedReply n 0 (blank z)) .answer .number ≢ 1 → Blanked z (if t then f l else refusedReply n 0 (blank z))
+          (if t then f l else refusedReply n 0 (blank z)) .answer .number ≢ 1
+          → Blanked z (if t then f l else refusedReply n 0 (blank z))
       by true h = absurd (h (good l .0))
       by false h = record { buffer = refl; state = refl }
 
-  pub blanked : r .answer .number ≢ 1 → Blanked z r
+  blanked : r .answer .number ≢ 1 → Blanked z r
   blanked = refused-by (recipeOf b)
 
-module _ (b : List ℕ) (ray : Ray) (index : Float) (z : List Float) (f : List Item → Reply) (good : (l : List Item) → (f l .answer .number ≡ 1) × (f l .answer .place ≡ 0)) where
+module _ (b : List ℕ) (ray : Ray) (index : Float) (z : List Float) (f : List Item → Reply)
+    (good : (l : List Item) → (f l .answer .number ≡ 1) × (f l .answer .place ≡ 0)) where
   -- the place from the recipe's own start
-  pub answers : Answers begun b (admitted (recipeOf b) 0 ray index (blank z) f)
+  answers : Answers begun b (admitted (recipeOf b) 0 ray index (blank z) f)
   answers = record { number = number b 0 ray index z f good; place = by (place b 0 ray index z f good) }
     where
       by : {p : ℕ} → (p ≡ 0) ⊎ ((q : ℕ) × (p ≡ 0 + q) × GoodUpTo b q) → GoodUpTo b p
@@ -99,9 +107,12 @@ module _ (b : List ℕ) (ray : Ray) (index : Float) (z : List Float) (f : List I
 -- a program's file
 module _ (f : List ℕ) (z : List Float) where
   abbrev InFile : Reply → Type 0
-  InFile r = (oneOf begun (r .answer .number) ≡ true) × ((r .answer .place ≡ 0) ⊎ ((q : ℕ) × (r .answer .place ≡ sourceBytes + q) × GoodUpTo (drop sourceBytes f) q)) × (r .answer .number ≢ 1 → Blanked z r)
+  InFile r =
+      (oneOf begun (r .answer .number) ≡ true)
+      × ((r .answer .place ≡ 0) ⊎ ((q : ℕ) × (r .answer .place ≡ sourceBytes + q) × GoodUpTo (drop sourceBytes f) q))
+      × (r .answer .number ≢ 1 → Blanked z r)
 
-  pub in-file : InFile (startFileOf f z)
+  in-file : InFile (startFileOf f z)
   unfolding startFileOf startAt refusedAnswer oneOf
   in-file =
       let s = sourceOf f in
@@ -127,13 +138,17 @@ module _ (b : List ℕ) (s : State) (z : List Float) (allowed : ℕ) where
 
   told-by : (r : Scan) → Sound r → Scanned b mostRecords 0 r → Told (on r)
   unfolding oneOf
-  told-by (refused n p) h d = (record { number = each (oneOf resumed) (2 ∷ 3 ∷ 4 ∷ 10 ∷ []) n refl h; place = leads none d }, λ _. record { state = refl; buffer = refl })
+  told-by (refused n p) h d = (
+    record { number = each (oneOf resumed) (2 ∷ 3 ∷ 4 ∷ 10 ∷ []) n refl h; place = leads none d },
+    λ _. record { state = refl; buffer = refl },
+  )
   told-by (items l) h d =
       either Told (short l) _ _ (record { number = refl; place = none }, λ _. record { state = refl; buffer = refl })
-      (either Told (not (fit l)) _ _ (record { number = refl; place = none }, λ _. record { state = refl; buffer = refl })
+      (either Told (not (fit l)) _ _
+      (record { number = refl; place = none }, λ _. record { state = refl; buffer = refl })
       (record { number = refl; place = none }, λ h. absurd (h refl)))
 
-  pub told : Told (continueOf b s z allowed)
+  told : Told (continueOf b s z allowed)
   unfolding continueOf
   told = told-by (recipeOf b) (scan-sound b mostRecords 0) (scanned b mostRecords 0)
 
@@ -144,7 +159,8 @@ module _ (b : List ℕ) (s : State) (z : List Float) (allowed : ℕ) where
   gives-12 (items l) h e k = by (short l) refl (fit l) refl k
     where
       by : (t : Bool) → short l ≡ t → (u : Bool) → fit l ≡ u
-          → (if t then reply 11 0 s z else if not u then reply 12 0 s z else accept (advance l allowed (held s z))) .answer .number ≡ 12 → Refused12 b s z
+          → (if t then reply 11 0 s z else if not u then reply 12 0 s z else
+          accept (advance l allowed (held s z))) .answer .number ≡ 12 → Refused12 b s z
       by true t u v k = absurd (omega (arith, k))
       by false t true v k = absurd (omega (arith, k))
       by false t false v k =
@@ -159,7 +175,7 @@ module _ (b : List ℕ) (s : State) (z : List Float) (allowed : ℕ) where
   given-12 h true e = absurd (fits-all (itemsOf b) (length b) s e (h .state))
   given-12 h false e = rw (le-ltb (length z) (width * length (itemsOf b)) (h .room), e)
 
-  pub twelve : (continueOf b s z allowed .answer .number ≡ 12) ↔ Refused12 b s z
+  twelve : (continueOf b s z allowed .answer .number ≡ 12) ↔ Refused12 b s z
   unfolding continueOf
   twelve = (gives-12 (recipeOf b) (scan-sound b mostRecords 0) refl, λ h. rw (h .recipe) (given-12 h _ refl))
 

@@ -1,22 +1,24 @@
--- What a surface's end tells: a hit, all of whose numbers are finite, or a number that stops the trace. Assumes nothing.
+-- What a surface's end tells: a hit of finite numbers, or a number that stops the trace. Assumes nothing.
+use Prim.Native.Nat.{ℕ}
 use mathlib.Core.Path.{_≡_, refl, sym, _∙_}
 use mathlib.Core.Bool.{Bool, true, false, not, _&&_, false≢true}
-use Rattle.numbers.specs.Arithmetic.{if_then_else_}
-use Rattle.surfaces.specs.Told.{Told, gives, refused, plain, done, after, stops}
-use Rattle.surfaces.specs.Surface.{turnRule}
+use Rattle.numbers.specs.Arithmetic.{_+₆₄_, if_then_else_}
+use Rattle.surfaces.specs.Refusal.{Told, gives, refused, plain, done, after, stops}
+use Rattle.surfaces.specs.Surface.{turnAnswer}
 use Rattle.surfaces.specs.declared.types.Landing.{Landing}
 use Rattle.surfaces.specs.declared.surface.Leaving.{Leaving}
 use Rattle.surfaces.proofs.Stops.{turn-stops}
 use Rattle.recipe.specs.declared.record.Optic.{Optic}
 use Rattle.trace.specs.declared.leg.Beam.{Beam}
 use Rattle.trace.specs.declared.leg.Leg.{Leg}
-use Rattle.trace.specs.Leg.{noLeg, boundaryOf, farther, legFinite, legOf}
+use Rattle.trace.specs.Leg.{noLeg, boundaryOf, share, legFinite, legOf}
 
 -- either an answer, or a number that stops
 abbrev pub Stops : {A : Type 0} → Told A → Type 0
 Stops x = done x ≡ false → stops (x .line .number) ≡ true
 
-after-stops : {A B : Type 0} (blank : B) (x : Told A) (next : A → Told B) → Stops x → ((a : A) → Stops (next a)) → Stops (after blank x next)
+after-stops : {A B : Type 0} (blank : B) (x : Told A) (next : A → Told B) → Stops x → ((a : A) → Stops (next a))
+    → Stops (after blank x next)
 after-stops blank x next p q = by (done x) refl
   where
     by : (d : Bool) → done x ≡ d → Stops (if d then next (x .value) else refused blank (x .line))
@@ -33,17 +35,27 @@ module _ (x : Told Leg) where
   nine-stops true false e p = λ _. refl
   nine-stops false f e p = p
 
-  hit-finite : (d f : Bool) → done x ≡ d → legFinite (x .value) ≡ f → done (checked d f) ≡ true → legFinite (checked d f .value) ≡ true
+  hit-finite : (d f : Bool) → done x ≡ d → legFinite (x .value) ≡ f → done (checked d f) ≡ true
+      → legFinite (checked d f .value) ≡ true
   hit-finite true true e g h = g
   hit-finite true false e g h = absurd (false≢true h)
   hit-finite false f e g h = absurd (false≢true (sym e ∙ h))
 
-module _ (o : Optic) (b : Beam) (x : Told Landing) where
+module _ (number : ℕ) (o : Optic) (b : Beam) (x : Told Landing) where
   abbrev gone : Landing → Leaving → Told Leg
-  gone l v = gives (record { t = l .t; point = l .point; normal = v .normal; direction = v .direction; front = v .front; path = farther (b .path) (l .t) })
+  gone l v =
+      gives
+      (record {
+        t = l .t;
+        point = l .point;
+        normal = v .normal;
+        direction = v .direction;
+        front = v .front;
+        path = b .path +₆₄ share number b (l .t);
+      })
 
   abbrev turned : Landing → Told Leg
-  turned l = after noLeg (turnRule (o .surface) (b .ray .direction) (l .point) (boundaryOf o (b .index))) (gone l)
+  turned l = after noLeg (turnAnswer (o .surface) (b .ray .direction) (l .point) (boundaryOf o (b .index))) (gone l)
 
   abbrev raw : Told Leg
   raw = after noLeg x turned
@@ -51,12 +63,13 @@ module _ (o : Optic) (b : Beam) (x : Told Landing) where
   turned-stops : (l : Landing) → Stops (turned l)
   turned-stops l =
       let turn = turn-stops (o .surface) (b .ray .direction) (l .point) (boundaryOf o (b .index)) in
-      after-stops noLeg (turnRule (o .surface) (b .ray .direction) (l .point) (boundaryOf o (b .index))) (gone l) turn (λ v d. absurd (false≢true (sym d)))
+      after-stops noLeg (turnAnswer (o .surface) (b .ray .direction) (l .point) (boundaryOf o (b .index))) (gone l) turn
+      (λ v d. absurd (false≢true (sym d)))
 
-  pub leg-stops : Stops x → Stops (legOf o b x)
+  pub leg-stops : Stops x → Stops (legOf number o b x)
   unfolding legOf
   leg-stops p = nine-stops raw (done raw) (legFinite (raw .value)) refl (after-stops noLeg x turned p turned-stops)
 
-  pub leg-finite : done (legOf o b x) ≡ true → legFinite (legOf o b x .value) ≡ true
+  pub leg-finite : done (legOf number o b x) ≡ true → legFinite (legOf number o b x .value) ≡ true
   unfolding legOf
   leg-finite h = hit-finite raw (done raw) (legFinite (raw .value)) refl refl h

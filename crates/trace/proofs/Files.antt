@@ -19,15 +19,17 @@ use Rattle.recipe.proofs.Records.{not-1}
 use Rattle.recipe.proofs.Scans.{scan-sound, scan-place}
 use Rattle.recipe.proofs.Shapes.{source-room}
 use Rattle.trace.specs.declared.run.Answer.{Answer}
-use Rattle.trace.specs.Trace.{mostRecords, Reply, recipeOf, blank, begunOf, startAt, startOf, startFileOf, refusedAnswer, refusedReply}
-use Rattle.trace.specs.File.{behindRay, startBehind, File}
+use Rattle.trace.specs.Run.{mostRecords, Reply, recipeOf, blank, begunOf, startAt, startOf, refusedAnswer}
+use Rattle.trace.specs.Run.{refusedReply}
+use Rattle.trace.specs.File.{startFileOf, behindRay, startBehind, File}
 use Rattle.trace.proofs.Starts.{start-is}
 
 pub source-long : (f : List ℕ) → sourceOf f .number ≡ 1 → sourceBytes ≤ length f
 unfolding sourceOf isSource
 source-long f h = by _ _ refl (isSource f) refl h
   where
-    by : (x w : Source) → w .number ≡ 10 → (t : Bool) → isSource f ≡ t → (if t then x else w) .number ≡ 1 → sourceBytes ≤ length f
+    by : (x w : Source) → w .number ≡ 10 → (t : Bool) → isSource f ≡ t → (if t then x else w) .number ≡ 1
+        → sourceBytes ≤ length f
     by x w n true e k = source-room f e
     by x w n false e k = absurd (omega (arith, n, k))
 
@@ -45,16 +47,20 @@ module _ (f : List ℕ) (z y : List Float) (blanked : y ≡ blank z) (s : Source
   unfolding startFileOf
   no-source h e = rw (← read, ne-eqb (s .number) 1 h, e, blanked)
 
-  pub with-source : s .number ≡ 1 → (c : Checked) → c ≡ checkOf (drop sourceBytes f) mostRecords 0 → a ≡ begunOf c sourceBytes (s .ray) (s .index) (length y) → record { answer = a; buffer = y } ≡ startFileOf f z
+  pub with-source : s .number ≡ 1 → (c : Checked) → c ≡ checkOf (drop sourceBytes f) mostRecords 0
+      → a ≡ begunOf c sourceBytes (s .ray) (s .index) (length y) → record { answer = a; buffer = y } ≡ startFileOf f z
   unfolding startFileOf
-  with-source h c checked begun = rw (← read, eq-eqb (s .number) 1 h) (start-is (drop sourceBytes f) c checked sourceBytes (s .ray) (s .index) z y a blanked begun)
+  with-source h c checked begun =
+      rw (← read, eq-eqb (s .number) 1 h)
+      (start-is (drop sourceBytes f) c checked sourceBytes (s .ray) (s .index) z y a blanked begun)
 
 module _ (f : List ℕ) (z : List Float) where
   without-ray : sourceOf f .number ≢ 1 → startFileOf f z ≡ refusedReply 10 0 (blank z)
   without-ray h = sym (no-source f z (blank z) refl (sourceOf f) refl (refusedAnswer 10 0) h refl)
 
   module _ (ray : sourceOf f .number ≡ 1) where
-    bad-record : (n p : ℕ) → recipeOf (behindRay f) ≡ refused n p → startFileOf f z ≡ refusedReply n (sourceBytes + p) (blank z)
+    bad-record : (n p : ℕ) → recipeOf (behindRay f) ≡ refused n p
+        → startFileOf f z ≡ refusedReply n (sourceBytes + p) (blank z)
     unfolding startFileOf startAt
     bad-record n p e = rw (eq-eqb (sourceOf f .number) 1 ray, e)
 
@@ -69,10 +75,20 @@ module _ (f : List ℕ) (z : List Float) where
       number : Reply → ℕ
       number r = r .answer .number
 
-      by : (t : Bool) → eqb (sourceOf f .number) 1 ≡ t → (r : Scan) → recipeOf (behindRay f) ≡ r → (sourceOf f .number ≡ 1) × (startFileOf f z ≡ startBehind f z)
+      by : (t : Bool) → eqb (sourceOf f .number) 1 ≡ t → (r : Scan) → recipeOf (behindRay f) ≡ r
+          → (sourceOf f .number ≡ 1) × (startFileOf f z ≡ startBehind f z)
       by false t r e = let q = ap number (without-ray (eqb-false _ _ t)) in absurd (omega arith)
-      by true t (refused n p) e = absurd (not-1 (rw e at (scan-sound (behindRay f) mostRecords 0)) (sym (ap number (bad-record (eqb-true _ _ t) n p e)) ∙ h))
+      by true t (refused n p) e =
+          let sound = rw e at (scan-sound (behindRay f) mostRecords 0) in
+          let same = ap number (bad-record (eqb-true _ _ t) n p e) in
+          absurd (not-1 sound (sym same ∙ h))
       by true t (items l) e = let s = eqb-true _ _ t in (s, good-records s l e)
 
 pub file : File
-file = record { accepted = accepted; without-ray = without-ray; bad-record = λ f z n p s e. bad-record f z s n p e; good-records = λ f z l s e. good-records f z s l e }
+file =
+    record {
+      accepted = accepted;
+      without-ray = without-ray;
+      bad-record = λ f z n p s e. bad-record f z s n p e;
+      good-records = λ f z l s e. good-records f z s l e;
+    }

@@ -1,17 +1,17 @@
--- Laws that several proofs use, and demand 3.
+-- Laws that several proofs use, and demands 1 and 3; what is `pub` is lent to the crates above.
 pub mod Cases
-pub mod Lists
+mod Lists
 pub mod Passes
 pub mod Endings
-pub mod Steps
-pub mod Closed
-pub mod Standing
+mod Steps
+mod Closed
+mod Standing
 pub mod Fits
 pub mod Unfits
-pub mod Walks
+mod Walks
 pub mod Starts
 pub mod Demand1
 pub mod Demand3
-pub mod Wholes
+mod Wholes
 pub mod Files
 pub mod Long

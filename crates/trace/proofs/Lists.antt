@@ -9,35 +9,45 @@ use lib.ListN.{length, getD, set, drop, replicate, drop-of-length-le, length-app
 use lib.Seq.{sets, drop-cons, sets-eq, take-at, drop-append-add}
 
 module _ {A : Type 0} where
-  fill-suc : (n : ℕ) (v : A) (d : List A) → n < length d → set (replicate n v ++ drop n d) n v ≡ replicate (suc n) v ++ drop (suc n) d
+  fill-suc : (n : ℕ) (v : A) (d : List A) → n < length d
+      → set (replicate n v ++ drop n d) n v ≡ replicate (suc n) v ++ drop (suc n) d
   fill-suc n v [] l = absurd (not-suc-le-zero l)
   fill-suc zero v (x ∷ d) l = refl
   fill-suc (suc n) v (x ∷ d) l = ap (λ (t : List A). v ∷ t) (fill-suc n v d (le-of-suc-le-suc l))
 
-  pub fill-more : (n : ℕ) (v : A) (d b : List A) → n < length d → b ≡ replicate n v ++ drop n d → set b n v ≡ replicate (n + 1) v ++ drop (n + 1) d
+  pub fill-more : (n : ℕ) (v : A) (d b : List A) → n < length d → b ≡ replicate n v ++ drop n d
+      → set b n v ≡ replicate (n + 1) v ++ drop (n + 1) d
   fill-more n v d b l e =
-      subst (λ (k : ℕ). set b n v ≡ replicate k v ++ drop k d) (sym (add-one n)) (ap (λ (t : List A). set t n v) e ∙ fill-suc n v d l)
+      let next = ap (λ (t : List A). set t n v) e ∙ fill-suc n v d l in
+      subst (λ (k : ℕ). set b n v ≡ replicate k v ++ drop k d) (sym (add-one n)) next
 
-  pub fill-end : (n : ℕ) (v : A) (d b : List A) → length d ≤ n → n ≤ length d → b ≡ replicate n v ++ drop n d → b ≡ replicate (length d) v
+  pub fill-end : (n : ℕ) (v : A) (d b : List A) → length d ≤ n → n ≤ length d → b ≡ replicate n v ++ drop n d
+      → b ≡ replicate (length d) v
   fill-end n v d b p q e =
       let m : n ≡ length d = omega arith in
-      e ∙ ap (λ (t : List A). replicate n v ++ t) (drop-of-length-le d p) ∙ append-nil (replicate n v) ∙ ap (λ (k : ℕ). replicate k v) m
+      e
+      ∙ ap (λ (t : List A). replicate n v ++ t) (drop-of-length-le d p)
+      ∙ append-nil (replicate n v)
+      ∙ ap (λ (k : ℕ). replicate k v) m
 
-  pub drop-replicate : (n m : ℕ) (v : A) → drop n (replicate m v) ≡ replicate (m - n) v
+  drop-replicate : (n m : ℕ) (v : A) → drop n (replicate m v) ≡ replicate (m - n) v
   drop-replicate zero m v = rw (sub-zero m)
   drop-replicate (suc n) zero v = let e : 0 - suc n ≡ 0 = omega arith in rw e
   drop-replicate (suc n) (suc m) v = let e : suc m - suc n ≡ m - n = omega arith in rw e (drop-replicate n m v)
 
   -- a record is written behind what has been written, over blanks
-  pub sets-blank : (w vs : List A) (m i : ℕ) (v : A) → length w ≡ i → length vs ≤ m → sets (w ++ replicate m v) i vs ≡ (w ++ vs) ++ replicate (m - length vs) v
+  pub sets-blank : (w vs : List A) (m i : ℕ) (v : A) → length w ≡ i → length vs ≤ m
+      → sets (w ++ replicate m v) i vs ≡ (w ++ vs) ++ replicate (m - length vs) v
   sets-blank w vs m i v e h =
       sets-eq vs (w ++ replicate m v) i (rw (length-append w (replicate m v), length-replicate m v) (omega arith))
       ∙ ap (λ (a : List A). (a ++ vs) ++ drop (i + length vs) (w ++ replicate m v)) (take-at w (replicate m v) i e)
       ∙ ap (λ (k : ℕ). (w ++ vs) ++ drop (k + length vs) (w ++ replicate m v)) (sym e)
-      ∙ ap (λ (a : List A). (w ++ vs) ++ a) (drop-append-add w (replicate m v) (length vs) ∙ drop-replicate (length vs) m v)
+      ∙ ap (λ (a : List A). (w ++ vs) ++ a) (drop-append-add w (replicate m v) (length vs))
+      ∙ ap (λ (a : List A). (w ++ vs) ++ a) (drop-replicate (length vs) m v)
 
   -- one value after another is written
-  pub sets-turn : (l vs : List A) (at i : ℕ) (d : A) → i < length vs → sets l (at + i) (drop i vs) ≡ sets (set l (at + i) (getD vs i d)) (at + (i + 1)) (drop (i + 1) vs)
+  pub sets-turn : (l vs : List A) (at i : ℕ) (d : A) → i < length vs
+      → sets l (at + i) (drop i vs) ≡ sets (set l (at + i) (getD vs i d)) (at + (i + 1)) (drop (i + 1) vs)
   sets-turn l vs at i d h =
       let e : at + (i + 1) ≡ suc (at + i) = omega arith in
       rw (drop-cons vs i d h, e, add-one i)

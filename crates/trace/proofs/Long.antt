@@ -17,7 +17,8 @@ use Rattle.recipe.proofs.Records.{not-1}
 use Rattle.recipe.proofs.Scans.{Sound, scan-sound}
 use Rattle.recipe.proofs.Length.{too-long}
 use Rattle.recipe.proofs.Sources.{source-take}
-use Rattle.trace.specs.Trace.{mostRecords, blank, refusedAnswer, startAt, startOf, startFileOf}
+use Rattle.trace.specs.Run.{mostRecords, blank, refusedAnswer, startAt, startOf}
+use Rattle.trace.specs.File.{startFileOf}
 use Rattle.trace.specs.Long.{Long}
 
 module _ (b : List ℕ) (long : 55296 < length b) (base : ℕ) (ray : Ray) (index : Float) (z : List Float) where
@@ -41,16 +42,26 @@ module _ (f : List ℕ) (z : List Float) (long : 55356 < length f) where
   file-alike : startFileOf f z ≡ startFileOf (take 55357 f) z
   unfolding startFileOf
   file-alike =
-      rw (source-take f 55357 (omega arith) (omega arith), drop-take sourceBytes 55297 f, alike (drop sourceBytes f) rest sourceBytes (sourceOf f .ray) (sourceOf f .index) z)
+      rw (
+        source-take f 55357 (omega arith) (omega arith),
+        drop-take sourceBytes 55297 f,
+        alike (drop sourceBytes f) rest sourceBytes (sourceOf f .ray) (sourceOf f .index) z,
+      )
 
   file-off : startFileOf f z .answer .number ≢ 1
   unfolding startFileOf refusedAnswer
   file-off = by (eqb (sourceOf f .number) 1)
     where
-      by : (t : Bool) → (if not t then record { answer = refusedAnswer 10 0; buffer = blank z } else startAt sourceBytes (drop sourceBytes f) (sourceOf f .ray) (sourceOf f .index) z) .answer .number ≢ 1
+      by : (t : Bool)
+          → (if not t then record { answer = refusedAnswer 10 0; buffer = blank z } else
+          startAt sourceBytes (drop sourceBytes f) (sourceOf f .ray) (sourceOf f .index) z) .answer .number ≢ 1
       by false = λ e. omega arith
       by true = off (drop sourceBytes f) rest sourceBytes (sourceOf f .ray) (sourceOf f .index) z
 
 pub long : Long
 unfolding startOf
-long = record { recipe = λ b ray index z h. (alike b h 0 ray index z, off b h 0 ray index z); file = λ f z h. (file-alike f z h, file-off f z h) }
+long =
+    record {
+      recipe = λ b ray index z h. (alike b h 0 ray index z, off b h 0 ray index z);
+      file = λ f z h. (file-alike f z h, file-off f z h);
+    }

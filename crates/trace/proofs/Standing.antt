@@ -10,7 +10,7 @@ use lib.ListN.{length, take}
 use lib.Dec.{leb, leb·zero}
 use borrow.Author.Tests.{le-leb, lt-leb, leb-true, leb-false}
 use Rattle.numbers.specs.Arithmetic.{if_then_else_, 0f}
-use Rattle.surfaces.specs.Told.{Told, Ended, done}
+use Rattle.surfaces.specs.Refusal.{Told, Ended, done}
 use Rattle.surfaces.specs.Surface.{surfaceEnd, limitOf}
 use Rattle.surfaces.proofs.Chains.{chain-ends}
 use Rattle.recipe.specs.Scan.{Item, placeOf, sumLimits}
@@ -19,7 +19,8 @@ use Rattle.trace.specs.declared.leg.Leg.{Leg}
 use Rattle.trace.specs.declared.state.State.{State}
 use Rattle.trace.specs.Leg.{legOf, beamAfter}
 use Rattle.trace.specs.Unbroken.{Mark, Trace, unbroken, total, finished}
-use Rattle.trace.specs.Trace.{opticsOf, standing}
+use Rattle.trace.specs.Run.{opticsOf}
+use Rattle.trace.specs.State.{standing}
 use Rattle.trace.specs.Demand3.{stateAt, stepsTo}
 use Rattle.trace.proofs.Closed.{unbroken-hit, unbroken-off, state-mid, state-hit, state-off, never-going-on}
 
@@ -29,7 +30,8 @@ pub record Reached (u : Trace) (q n : ℕ) (s : State) : Type 0 where
   pub outcome : s .outcome ≡ (if leb (total (u .marks)) n then u .outcome else 0)
 
 module _ (q n : ℕ) (a : Mark) where
-  unfinished : (u : Trace) (s : State) → n < a .steps → (l : List Mark) → u .marks ≡ a ∷ l → s .steps ≡ q + n → s .outcome ≡ 0 → Reached u q n s
+  unfinished : (u : Trace) (s : State) → n < a .steps → (l : List Mark) → u .marks ≡ a ∷ l → s .steps ≡ q + n
+      → s .outcome ≡ 0 → Reached u q n s
   unfolding total
   unfinished u s h l m f g =
       let t : n < total (u .marks) = rw m (omega arith) in
@@ -46,37 +48,74 @@ module _ (q n : ℕ) (a : Mark) where
   hit u s h r =
       record {
         steps = r .steps ∙ omega arith;
-        outcome = r .outcome ∙ ap (λ (t : Bool). if t then u .outcome else 0) (shift (leb (total (u .marks)) (n - a .steps)) refl);
+        outcome =
+            r .outcome
+            ∙ ap (λ (t : Bool). if t then u .outcome else 0) (shift (leb (total (u .marks)) (n - a .steps)) refl);
       }
     where
       shift : (t : Bool) → leb (total (u .marks)) (n - a .steps) ≡ t → t ≡ leb (a .steps + total (u .marks)) n
-      shift true e = sym (le-leb (a .steps + total (u .marks)) n (omega (arith, leb-true (total (u .marks)) (n - a .steps) e)))
-      shift false e = sym (lt-leb (a .steps + total (u .marks)) n (omega (arith, leb-false (total (u .marks)) (n - a .steps) e)))
+      shift true e =
+          sym (le-leb (a .steps + total (u .marks)) n (omega (arith, leb-true (total (u .marks)) (n - a .steps) e)))
+      shift false e =
+          sym (lt-leb (a .steps + total (u .marks)) n (omega (arith, leb-false (total (u .marks)) (n - a .steps) e)))
 
+-- the state at the end of a trace u
+abbrev Last : List Item → ℕ → ℕ → ℕ → Trace → State
+Last r end k q u = standing (k + u .hits) (placeOf r end (u .hits)) (u .beam) (q + total (u .marks)) (u .outcome)
+
+-- one surface, and what lies behind it
 module _ (i : Item) (r : List Item) (end k q n : ℕ) (b : Beam) where
   abbrev e : Ended
   e = surfaceEnd (i .optic .surface) (b .ray)
 
   abbrev x : Told Leg
-  x = legOf (i .optic) b (e .answer)
+  x = legOf k (i .optic) b (e .answer)
+
+  abbrev onward : Beam
+  onward = beamAfter (i .optic) b (x .value)
+
+  abbrev later : Trace
+  later = unbroken (k + 1) (opticsOf r) onward
+
+  abbrev later-state : State
+  later-state = stateAt r end (k + 1) onward (q + e .passes) (n - e .passes)
+
+  abbrev whole : Trace
+  whole = unbroken k (opticsOf (i ∷ r)) b
 
   on-surface : (t : Bool) → leb (e .passes) n ≡ t → (d : Bool) → done x ≡ d
-      → Reached (unbroken (opticsOf r) (beamAfter (i .optic) b (x .value))) (q + e .passes) (n - e .passes) (stateAt r end (k + 1) (beamAfter (i .optic) b (x .value)) (q + e .passes) (n - e .passes))
-      → Reached (unbroken (opticsOf (i ∷ r)) b) q n (stateAt (i ∷ r) end k b q n)
+      → Reached later (q + e .passes) (n - e .passes) later-state → Reached whole q n (stateAt (i ∷ r) end k b q n)
   on-surface false t true d rest =
       let h = leb-false (e .passes) n t in
-      rw (state-mid i r b end k q n h) (unfinished q n _ _ _ h _ (ap (λ (u : Trace). u .marks) (unbroken-hit i r b d)) refl refl)
+      let marks = ap (λ (u : Trace). u .marks) (unbroken-hit k i r b d) in
+      rw (state-mid k i r b end q n h) (unfinished q n _ _ _ h _ marks refl refl)
   on-surface false t false d rest =
       let h = leb-false (e .passes) n t in
-      rw (state-mid i r b end k q n h) (unfinished q n _ _ _ h _ (ap (λ (u : Trace). u .marks) (unbroken-off i r b d)) refl refl)
+      let marks = ap (λ (u : Trace). u .marks) (unbroken-off k i r b d) in
+      rw (state-mid k i r b end q n h) (unfinished q n _ _ _ h _ marks refl refl)
   on-surface true t true d rest =
       let h = leb-true (e .passes) n t in
-      rw (state-hit i r b end k q n h d, unbroken-hit i r b d) (hit q n _ _ _ h rest)
+      rw (state-hit k i r b end q n h d, unbroken-hit k i r b d) (hit q n _ _ _ h rest)
   on-surface true t false d rest =
       let h = leb-true (e .passes) n t in
-      rw (state-off i r b end k q n h d, unbroken-off i r b d) (refused q n _ _ _ _ h refl refl)
+      rw (state-off k i r b end q n h d, unbroken-off k i r b d) (refused q n _ _ _ _ h refl refl)
 
-pub reached : (r : List Item) (end k q n : ℕ) (b : Beam) → Reached (unbroken (opticsOf r) b) q n (stateAt r end k b q n)
+  last-surface : (d : Bool) → done x ≡ d → total (whole .marks) ≤ n
+      → (total (later .marks) ≤ n - e .passes → later-state ≡ Last r end (k + 1) (q + e .passes) later)
+      → stateAt (i ∷ r) end k b q n ≡ Last (i ∷ r) end k q whole
+  unfolding total placeOf
+  last-surface true d h rest =
+      let t : total (whole .marks) ≡ _ = ap (λ (u : Trace). total (u .marks)) (unbroken-hit k i r b d) in
+      let u : Trace = later in
+      let a : k + 1 + u .hits ≡ k + suc (u .hits) = omega arith in
+      let f : q + e .passes + total (u .marks) ≡ q + (e .passes + total (u .marks)) = omega arith in
+      state-hit k i r b end q n (omega arith) d ∙ rest (omega arith) ∙ rw (unbroken-hit k i r b d, a, f)
+  last-surface false d h rest =
+      let t : total (whole .marks) ≡ _ = ap (λ (u : Trace). total (u .marks)) (unbroken-off k i r b d) in
+      state-off k i r b end q n (omega arith) d ∙ rw (unbroken-off k i r b d, add-zero k, add-zero (e .passes))
+
+pub reached : (r : List Item) (end k q n : ℕ) (b : Beam)
+    → Reached (unbroken k (opticsOf r) b) q n (stateAt r end k b q n)
 unfolding unbroken stateAt total
 reached [] end k q n b = record { steps = omega arith; outcome = rw (leb·zero n) }
 reached (i ∷ r) end k q n b = on-surface i r end k q n b _ refl _ refl (reached r end (k + 1) _ _ _)
@@ -97,61 +136,48 @@ exactly (m ∷ l) n k h = by (leb (m .steps) n) refl k h (λ j i. exactly l (n -
         let later = rest j (omega arith) in
         (λ a. omega (arith, later .0 (omega arith)), λ b. omega (arith, later .1 (omega arith)))
 
-few : (i : Item) (l : List Item) (b : Beam) (d : Bool) → done (legOf (i .optic) b (surfaceEnd (i .optic .surface) (b .ray) .answer)) ≡ d
-    → ((c : Beam) → total (unbroken (opticsOf l) c .marks) ≤ sumLimits l)
-    → total (unbroken (opticsOf (i ∷ l)) b .marks) ≤ limitOf (i .optic .surface .kind) + sumLimits l
+few : (k : ℕ) (i : Item) (l : List Item) (b : Beam) (d : Bool)
+    → done (legOf k (i .optic) b (surfaceEnd (i .optic .surface) (b .ray) .answer)) ≡ d
+    → ((c : Beam) → total (unbroken (k + 1) (opticsOf l) c .marks) ≤ sumLimits l)
+    → total (unbroken k (opticsOf (i ∷ l)) b .marks) ≤ limitOf (i .optic .surface .kind) + sumLimits l
 unfolding total
-few i l b true d rest = rw (unbroken-hit i l b d) (omega (arith, chain-ends (i .optic .surface) (b .ray) 0f .within, rest (beamAfter (i .optic) b (legOf (i .optic) b (surfaceEnd (i .optic .surface) (b .ray) .answer) .value))))
-few i l b false d rest = rw (unbroken-off i l b d) (omega (arith, chain-ends (i .optic .surface) (b .ray) 0f .within))
+few k i l b true d rest =
+    let within = chain-ends (i .optic .surface) (b .ray) 0f .within in
+    let x = legOf k (i .optic) b (surfaceEnd (i .optic .surface) (b .ray) .answer) in
+    rw (unbroken-hit k i l b d) (omega (arith, within, rest (beamAfter (i .optic) b (x .value))))
+few k i l b false d rest =
+    let within = chain-ends (i .optic .surface) (b .ray) 0f .within in
+    rw (unbroken-off k i l b d) (omega (arith, within))
 
 -- the steps of a trace are at most the sum of all limits
-pub total-limit : (l : List Item) (b : Beam) → total (unbroken (opticsOf l) b .marks) ≤ sumLimits l
+pub total-limit : (k : ℕ) (l : List Item) (b : Beam) → total (unbroken k (opticsOf l) b .marks) ≤ sumLimits l
 unfolding unbroken total sumLimits
-total-limit [] b = zero-le
-total-limit (i ∷ l) b = few i l b _ refl (total-limit l)
+total-limit k [] b = zero-le
+total-limit k (i ∷ l) b = few k i l b _ refl (total-limit (k + 1) l)
 
 -- it ends
-ending : (i : Item) (l : List Item) (b : Beam) (d : Bool) → done (legOf (i .optic) b (surfaceEnd (i .optic .surface) (b .ray) .answer)) ≡ d
-    → ((c : Beam) → unbroken (opticsOf l) c .outcome ≢ 0) → unbroken (opticsOf (i ∷ l)) b .outcome ≢ 0
-ending i l b true d rest = rw (unbroken-hit i l b d) (rest _)
-ending i l b false d rest = rw (unbroken-off i l b d) (never-going-on (i .optic) b)
+ending : (k : ℕ) (i : Item) (l : List Item) (b : Beam) (d : Bool)
+    → done (legOf k (i .optic) b (surfaceEnd (i .optic .surface) (b .ray) .answer)) ≡ d
+    → ((c : Beam) → unbroken (k + 1) (opticsOf l) c .outcome ≢ 0) → unbroken k (opticsOf (i ∷ l)) b .outcome ≢ 0
+ending k i l b true d rest = rw (unbroken-hit k i l b d) (rest _)
+ending k i l b false d rest = rw (unbroken-off k i l b d) (never-going-on k (i .optic) b)
 
-pub has-outcome : (l : List Item) (b : Beam) → unbroken (opticsOf l) b .outcome ≢ 0
+pub has-outcome : (k : ℕ) (l : List Item) (b : Beam) → unbroken k (opticsOf l) b .outcome ≢ 0
 unfolding unbroken
-has-outcome [] b = λ e. omega arith
-has-outcome (i ∷ l) b = ending i l b _ refl (has-outcome l)
+has-outcome k [] b = λ e. omega arith
+has-outcome k (i ∷ l) b = ending k i l b _ refl (has-outcome (k + 1) l)
 
 -- all surfaces are finished once the steps suffice
 pub finished-all : (l : List Mark) (n : ℕ) → total l ≤ n → finished n l ≡ l
 unfolding finished total
 finished-all [] n h = refl
-finished-all (m ∷ l) n h = rw (le-leb (m .steps) n (omega arith)) (ap (λ (r : List Mark). m ∷ r) (finished-all l (n - m .steps) (omega arith)))
+finished-all (m ∷ l) n h =
+    let rest = finished-all l (n - m .steps) (omega arith) in
+    rw (le-leb (m .steps) n (omega arith)) (ap (λ (r : List Mark). m ∷ r) rest)
 
 -- and the state is that of the trace's end
-abbrev Last : List Item → ℕ → ℕ → ℕ → Beam → Trace → State
-Last r end k q b u = standing (k + u .hits) (placeOf r end (u .hits)) (u .beam) (q + total (u .marks)) (u .outcome)
-
-module _ (i : Item) (r : List Item) (end k q n : ℕ) (b : Beam) where
-  abbrev whole : Trace
-  whole = unbroken (opticsOf (i ∷ r)) b
-
-  last-surface : (d : Bool) → done (x i r end k q n b) ≡ d → total (whole .marks) ≤ n
-      → (let c = beamAfter (i .optic) b (x i r end k q n b .value) in let u = unbroken (opticsOf r) c in
-      total (u .marks) ≤ n - e i r end k q n b .passes → stateAt r end (k + 1) c (q + e i r end k q n b .passes) (n - e i r end k q n b .passes) ≡ Last r end (k + 1) (q + e i r end k q n b .passes) c u)
-      → stateAt (i ∷ r) end k b q n ≡ Last (i ∷ r) end k q b whole
-  unfolding total placeOf
-  last-surface true d h rest =
-      let t : total (whole .marks) ≡ _ = ap (λ (u : Trace). total (u .marks)) (unbroken-hit i r b d) in
-      let c = beamAfter (i .optic) b (x i r end k q n b .value) in
-      let u = unbroken (opticsOf r) c in
-      let a : k + 1 + u .hits ≡ k + suc (u .hits) = omega arith in
-      let f : q + e i r end k q n b .passes + total (u .marks) ≡ q + (e i r end k q n b .passes + total (u .marks)) = omega arith in
-      state-hit i r b end k q n (omega arith) d ∙ rest (omega arith) ∙ rw (unbroken-hit i r b d, a, f)
-  last-surface false d h rest =
-      let t : total (whole .marks) ≡ _ = ap (λ (u : Trace). total (u .marks)) (unbroken-off i r b d) in
-      state-off i r b end k q n (omega arith) d ∙ rw (unbroken-off i r b d, add-zero k, add-zero (e i r end k q n b .passes))
-
-pub at-end : (r : List Item) (end k q n : ℕ) (b : Beam) → total (unbroken (opticsOf r) b .marks) ≤ n → stateAt r end k b q n ≡ Last r end k q b (unbroken (opticsOf r) b)
+pub at-end : (r : List Item) (end k q n : ℕ) (b : Beam) → total (unbroken k (opticsOf r) b .marks) ≤ n
+    → stateAt r end k b q n ≡ Last r end k q (unbroken k (opticsOf r) b)
 unfolding unbroken stateAt total placeOf
 at-end [] end k q n b h = rw (add-zero k, add-zero q)
 at-end (i ∷ r) end k q n b h = last-surface i r end k q n b _ refl h (λ g. at-end r end (k + 1) _ _ _ g)

@@ -13,7 +13,7 @@ use borrow.Author.Tests.{eq-eqb, ne-eqb, lt-ltb, le-ltb, eqb-true, eqb-false, lt
 use Rattle.numbers.specs.Arithmetic.{_≤₆₄_, if_then_else_, 0f, decimal}
 use Rattle.surfaces.specs.Types.{rayFinite}
 use Rattle.surfaces.specs.declared.types.Ray.{Ray}
-use Rattle.surfaces.proofs.Choice.{both}
+use Rattle.numbers.proofs.Choice.{both}
 use Rattle.surfaces.proofs.Chains.{limit-bounds}
 use Rattle.recipe.specs.declared.scan.Checked.{Checked}
 use Rattle.recipe.specs.Scan.{Item, Scan, refused, items, notes, nothing, says, checkOf, itemsIn, sumLimits}
@@ -24,8 +24,10 @@ use Rattle.trace.specs.declared.state.State.{State}
 use Rattle.trace.specs.declared.run.Answer.{Answer}
 use Rattle.trace.specs.Leg.{width}
 use Rattle.trace.specs.State.{Held, held, advance, beamGood, fitsOf}
-use Rattle.trace.specs.Trace.{mostRecords, Reply, reply, blank, recipeOf, itemsOf, beamOf, firstState, refusedAnswer, refusedReply, admission, admitted, begunOf, startAt, accept, continueOn, continueOf}
-use Rattle.trace.specs.Ready.{Ready}
+use Rattle.trace.specs.Run.{mostRecords, Reply, reply, blank, recipeOf, itemsOf, beamOf, firstState}
+use Rattle.trace.specs.Run.{refusedAnswer, refusedReply, admission, admitted, begunOf, startAt, accept}
+use Rattle.trace.specs.Run.{continueOn, continueOf}
+use Rattle.trace.specs.Parts.{Ready}
 use Rattle.trace.proofs.Fits.{good-beam, fits-fit, few-steps}
 
 -- what a check says of the recipe
@@ -34,9 +36,13 @@ pub data Finding (w : ℕ) (c : Checked) : Scan → Type 0 where
   finds-good : {l : List Item} → c ≡ notes w nothing l → c .number ≡ 1 → c .count ≡ length l → Finding w c (items l)
 
 found : (w : ℕ) (c : Checked) (r : Scan) → Sound r → c ≡ says w nothing r → Finding w c r
-found w c (refused n p) h e = finds-bad (ap (λ (k : Checked). k .number) e) (ap (λ (k : Checked). k .place) e) (λ q. not-1 h (sym (ap (λ (k : Checked). k .number) e) ∙ q))
+found w c (refused n p) h e =
+    let number = ap (λ (k : Checked). k .number) e in
+    finds-bad number (ap (λ (k : Checked). k .place) e) (λ q. not-1 h (sym number ∙ q))
 found w c (items l) h e =
-    finds-good e (ap (λ (k : Checked). k .number) e ∙ notes-answer w nothing l .0) (let q = ap (λ (k : Checked). k .count) e in omega (arith, q, notes-count w nothing l))
+    let number = ap (λ (k : Checked). k .number) e in
+    let count = ap (λ (k : Checked). k .count) e in
+    finds-good e (number ∙ notes-answer w nothing l .0) (omega (arith, count, notes-count w nothing l))
 
 pub finding : (b : List ℕ) (w : ℕ) (c : Checked) → c ≡ checkOf b mostRecords w → Finding w c (recipeOf b)
 unfolding checkOf
@@ -44,22 +50,27 @@ finding b w c e = found w c (recipeOf b) (scan-sound b mostRecords 0) e
 
 -- an answer and the buffer beside it
 beside : (z : List Float) (accept : Answer) (n : ℕ) (t : Bool)
-    → _≡_ {A = Reply} (record { answer = if t then accept else refusedAnswer n 0; buffer = z }) (if t then record { answer = accept; buffer = z } else refusedReply n 0 z)
+    → _≡_ {A = Reply} (record { answer = if t then accept else refusedAnswer n 0; buffer = z })
+    (if t then record { answer = accept; buffer = z } else refusedReply n 0 z)
 beside z accept n true = refl
 beside z accept n false = refl
 
 begun : (c : Checked) (r : Scan) → Finding 0 c r → (base : ℕ) (ray : Ray) (index : Float) (z : List Float)
-    → record { answer = begunOf c base ray index (length z); buffer = z } ≡ admitted r base ray index z (λ l. reply 1 0 (firstState (length l) (beamOf ray index)) z)
+    → record { answer = begunOf c base ray index (length z); buffer = z }
+    ≡ admitted r base ray index z (λ l. reply 1 0 (firstState (length l) (beamOf ray index)) z)
 unfolding begunOf
 begun c (refused n p) (finds-bad e f g) base ray index z = rw (ne-eqb (c .number) 1 g, e, f)
 begun c (items l) (finds-good e n k) base ray index z =
     let a = admission ray index (length z) (length l) in
-    rw (eq-eqb (c .number) 1 n, k) (beside z (record { number = 1; place = 0; state = firstState (length l) (beamOf ray index) }) a (eqb a 1))
+    let started : Answer = record { number = 1; place = 0; state = firstState (length l) (beamOf ray index) } in
+    rw (eq-eqb (c .number) 1 n, k) (beside z started a (eqb a 1))
 
-pub start-is : (b : List ℕ) (c : Checked) → c ≡ checkOf b mostRecords 0 → (base : ℕ) (ray : Ray) (index : Float) (z y : List Float) (a : Answer) → y ≡ blank z
+pub start-is : (b : List ℕ) (c : Checked) → c ≡ checkOf b mostRecords 0
+    → (base : ℕ) (ray : Ray) (index : Float) (z y : List Float) (a : Answer) → y ≡ blank z
     → a ≡ begunOf c base ray index (length y) → record { answer = a; buffer = y } ≡ startAt base b ray index z
 unfolding startAt
-start-is b c e base ray index z y a blanked q = rw (q, blanked) (begun c (recipeOf b) (finding b 0 c e) base ray index (blank z))
+start-is b c e base ray index z y a blanked q =
+    rw (q, blanked) (begun c (recipeOf b) (finding b 0 c e) base ray index (blank z))
 
 pub no-items : {n p : ℕ} {l : List Item} → refused n p ≡ items l → ⊥
 no-items e = let z : _≡_ {A = ℕ} 0 1 = cc in omega arith
@@ -75,20 +86,26 @@ module _ (ray : Ray) (index : Float) where
   unfolding beamGood decimal
   start-good u v = rw (both (rayFinite ray) _ u .0, both (rayFinite ray) _ u .1, v)
 
-  admission-good : (room count : ℕ) → admission ray index room count ≡ 1 → (beamGood (beamOf ray index) ≡ true) × (width * count ≤ room)
+  admission-good : (room count : ℕ) → admission ray index room count ≡ 1
+      → (beamGood (beamOf ray index) ≡ true) × (width * count ≤ room)
   unfolding admission
-  admission-good room count h = by (rayFinite ray && finite index) (index ≤₆₄ 0f) (ltb room (width * count)) refl refl refl h
+  admission-good room count h =
+      by (rayFinite ray && finite index) (index ≤₆₄ 0f) (ltb room (width * count)) refl refl refl h
     where
       by : (u v w : Bool) → (rayFinite ray && finite index) ≡ u → (index ≤₆₄ 0f) ≡ v → ltb room (width * count) ≡ w
-          → _≡_ {A = ℕ} (if not u then 2 else if v then 4 else if w then 11 else 1) 1 → (beamGood (beamOf ray index) ≡ true) × (width * count ≤ room)
+          → _≡_ {A = ℕ} (if not u then 2 else if v then 4 else if w then 11 else 1) 1
+          → (beamGood (beamOf ray index) ≡ true) × (width * count ≤ room)
       by false v w a b c h = absurd (omega arith)
       by true true w a b c h = absurd (omega arith)
       by true false true a b c h = absurd (omega arith)
       by true false false a b c h = (start-good a b, ltb-false _ _ c)
 
-  good-admission : (room count : ℕ) → beamGood (beamOf ray index) ≡ true → width * count ≤ room → admission ray index room count ≡ 1
+  good-admission : (room count : ℕ) → beamGood (beamOf ray index) ≡ true → width * count ≤ room
+      → admission ray index room count ≡ 1
   unfolding admission
-  good-admission room count b h = let g = good-beam (beamOf ray index) b in rw (g .0, g .2 .0, g .2 .1, le-ltb room (width * count) h)
+  good-admission room count b h =
+      let g = good-beam (beamOf ray index) b in
+      rw (g .0, g .2 .0, g .2 .1, le-ltb room (width * count) h)
 
 module _ (base : ℕ) (ray : Ray) (index : Float) (z : List Float) where
   admits : (l : List Item) (f : Reply) (t : Bool) → let n = admission ray index (length z) (length l) in
@@ -99,28 +116,34 @@ module _ (base : ℕ) (ray : Ray) (index : Float) (z : List Float) where
       record { good = refl; beam = g .0; room = g .1 }
   admits l f false e h = absurd (eqb-false _ _ e h)
 
-  pub admitted-by : (r : Scan) → Sound r → (f : List Item → Reply) → admitted r base ray index z f .answer .number ≡ 1 → Admitted r ray index z
+  pub admitted-by : (r : Scan) → Sound r → (f : List Item → Reply) → admitted r base ray index z f .answer .number ≡ 1
+      → Admitted r ray index z
   unfolding refusedAnswer
   admitted-by (refused n p) s f h = absurd (not-1 s h)
   admitted-by (items l) s f h = admits l (f l) _ refl h
 
   -- what is accepted, and what is refused, whatever an accepted start leads to
-  pub admitted-is : (r : Scan) → Admitted r ray index z → (f : List Item → Reply) → admitted r base ray index z f ≡ f (itemsIn r)
+  pub admitted-is : (r : Scan) → Admitted r ray index z → (f : List Item → Reply)
+      → admitted r base ray index z f ≡ f (itemsIn r)
   admitted-is (refused n p) a f = absurd (no-items (a .good))
   admitted-is (items l) a f = rw (good-admission ray index (length z) (length l) (a .beam) (a .room))
 
-  alike : (t : Bool) (f g r : Reply) → f .answer .number ≡ 1 → (if t then f else r) .answer .number ≢ 1 → (if t then f else r) ≡ (if t then g else r)
+  alike : (t : Bool) (f g r : Reply) → f .answer .number ≡ 1 → (if t then f else r) .answer .number ≢ 1
+      → (if t then f else r) ≡ (if t then g else r)
   alike true f g r a h = absurd (h a)
   alike false f g r a h = refl
 
-  pub refused-alike : (r : Scan) (f g : List Item → Reply) → ((l : List Item) → f l .answer .number ≡ 1) → admitted r base ray index z f .answer .number ≢ 1
+  pub refused-alike : (r : Scan) (f g : List Item → Reply) → ((l : List Item) → f l .answer .number ≡ 1)
+      → admitted r base ray index z f .answer .number ≢ 1
       → admitted r base ray index z f ≡ admitted r base ray index z g
   refused-alike (refused n p) f g a h = refl
   refused-alike (items l) f g a h = alike (eqb (admission ray index (length z) (length l)) 1) (f l) (g l) _ (a l) h
 
 -- continue
-module _ (b : List ℕ) (s : State) (z : List Float) (k : ℕ) (c : Checked) (e : c ≡ checkOf b mostRecords (s .number)) where
-  bad : (r : Scan) → Finding (s .number) c r → c .number ≢ 1 → reply (c .number) (c .place) s z ≡ continueOn r (length b) s z k
+module _ (b : List ℕ) (s : State) (z : List Float) (k : ℕ) (c : Checked)
+    (e : c ≡ checkOf b mostRecords (s .number)) where
+  bad : (r : Scan) → Finding (s .number) c r → c .number ≢ 1
+      → reply (c .number) (c .place) s z ≡ continueOn r (length b) s z k
   bad (refused n p) (finds-bad q f g) h = rw (q, f)
   bad (items l) (finds-good q n i) h = absurd (h n)
 
@@ -128,7 +151,8 @@ module _ (b : List ℕ) (s : State) (z : List Float) (k : ℕ) (c : Checked) (e 
   unfolding continueOf
   on-bad h = bad (recipeOf b) (finding b (s .number) c e) h
 
-  good : (r : Scan) → Finding (s .number) c r → c .number ≡ 1 → (r ≡ items (itemsIn r)) × (c ≡ notes (s .number) nothing (itemsIn r)) × (c .count ≡ length (itemsIn r))
+  good : (r : Scan) → Finding (s .number) c r → c .number ≡ 1
+      → (r ≡ items (itemsIn r)) × (c ≡ notes (s .number) nothing (itemsIn r)) × (c .count ≡ length (itemsIn r))
   good (refused n p) (finds-bad q f g) h = absurd (g h)
   good (items l) (finds-good q n i) h = (refl, q, i)
 
@@ -162,7 +186,8 @@ module _ (b : List ℕ) (s : State) (z : List Float) (k : ℕ) (c : Checked) (e 
         noted = rw (← recipe-good .1) q
 
         pub on-ready : Ready b (length z) (c .count) s
-        on-ready = record { good = recipe-good .0; counted = recipe-good .2; fits = i; fit = fits-fit l (length b) s noted }
+        on-ready =
+            record { good = recipe-good .0; counted = recipe-good .2; fits = i; fit = fits-fit l (length b) s noted }
 
         pub on-steps : s .steps ≤ sumLimits l
         on-steps = few-steps l (length b) s noted

@@ -1,4 +1,4 @@
--- Which states do not fit a recipe: the test says no exactly if one of document 01's conditions holds. Assumes nothing.
+-- Which states do not fit a recipe: the test says no exactly if one of SCOPE C5's conditions holds. Assumes nothing.
 use Prim.Native.Nat.{ℕ, zero, suc, _+_, _≤_, _<_}
 use mathlib.Core.Path.{_≡_, refl, sym, _∙_, subst}
 use mathlib.Core.Logic.{_≢_, ⊎-elim}
@@ -10,23 +10,24 @@ use lib.Dec.{eqb, ltb, leb}
 use lib.Ieee.Scale.{finite}
 use borrow.Author.Tests.{eqb-true, eqb-false, ltb-true, ltb-false, leb-true, leb-false, not-false}
 use Rattle.numbers.specs.Arithmetic.{_≤₆₄_, if_then_else_, 0f}
-use Rattle.surfaces.specs.Types.{rayFinite}
-use Rattle.surfaces.specs.Told.{stops}
-use Rattle.surfaces.specs.Demand1.{oneOf}
+use Rattle.surfaces.specs.Refusal.{stops}
+use Rattle.numbers.specs.Arithmetic.{oneOf}
 use Rattle.surfaces.specs.Surface.{limitOf}
-use Rattle.surfaces.proofs.Choice.{both, one-false, or-else}
+use Rattle.numbers.proofs.Choice.{both, one-false, or-else}
 use Rattle.surfaces.proofs.Chains.{limit-bounds}
-use Rattle.surfaces.proofs.Demand1.{each}
+use Rattle.numbers.proofs.Lists.{each}
 use Rattle.recipe.specs.declared.scan.Checked.{Checked}
-use Rattle.recipe.specs.Scan.{Item, itemAt, placeOf, notes, nothing, sumLimits}
+use Rattle.recipe.specs.Scan.{Item, itemAt, notes, nothing}
 use Rattle.recipe.proofs.Chain.{place-at, place-end}
 use Rattle.trace.specs.declared.state.State.{State}
 use Rattle.trace.specs.State.{outcomeKnown, placeFits, passesFit, beamGood, fitsOf}
-use Rattle.trace.specs.Ready.{Stands, walking, arrived, stopped, Fit}
-use Rattle.trace.specs.Demand1.{Unfit, outcome-unknown, number-not-count, place-not-end, place-not-start, number-without-record, passes-at-limit, passes-once-ended, steps-above-limits, ray-not-finite, path-not-finite, index-not-finite, index-not-positive}
+use Rattle.trace.specs.Parts.{Stands, walking, arrived, stopped, Fit}
+use Rattle.trace.specs.Demand1.{Unfit, outcome-unknown, number-not-count, place-not-end, place-not-start}
+use Rattle.trace.specs.Demand1.{number-without-record, passes-at-limit, passes-once-ended, steps-above-limits}
+use Rattle.trace.specs.Demand1.{ray-not-finite, path-not-finite, index-not-finite, index-not-positive}
 use Rattle.trace.proofs.Fits.{good-beam, stops-known, count-is, limits-is, found-is, fits-fit, few-steps}
 
--- the outcomes that document 01 names
+-- the outcomes that SCOPE C5 names
 abbrev pub outcomes : List ℕ
 outcomes = 0 ∷ 1 ∷ 2 ∷ 4 ∷ 5 ∷ 6 ∷ 7 ∷ 8 ∷ 9 ∷ []
 
@@ -62,7 +63,9 @@ stops-listed n h = by (eqb n 2) refl h
     by true e h = rw (eqb-true n 2 e)
     by false e h =
         let q = both (leb 4 n) (leb n 9) h in
-        or-else (eqb n 0) _ (or-else (eqb n 1) _ (or-else (eqb n 2) _ (from-has 4 6 n (leb-true 4 n (q .0)) (let r = leb-true n 9 (q .1) in omega arith))))
+        let r = leb-true n 9 (q .1) in
+        let listed = from-has 4 6 n (leb-true 4 n (q .0)) (omega arith) in
+        or-else (eqb n 0) _ (or-else (eqb n 1) _ (or-else (eqb n 2) _ listed))
 
 module _ (l : List Item) (end : ℕ) (s : State) where
   abbrev c : Checked
@@ -72,18 +75,23 @@ module _ (l : List Item) (end : ℕ) (s : State) where
   unfolding placeFits
   misplaced h = by (eqb (s .outcome) 1) refl h
     where
-      at-end : s .outcome ≡ 1 → (t : Bool) → eqb (s .number) (c .count) ≡ t → (t && eqb (s .place) end) ≡ false → Unfit l end s
+      at-end : s .outcome ≡ 1 → (t : Bool) → eqb (s .number) (c .count) ≡ t → (t && eqb (s .place) end) ≡ false
+          → Unfit l end s
       at-end o true e h = place-not-end o (eqb-false _ _ h)
       at-end o false e h = number-not-count o (λ q. eqb-false _ _ e (q ∙ sym (count-is l end s)))
 
-      at-record : s .outcome ≢ 1 → (t : Bool) → ltb (s .number) (c .count) ≡ t → (t && eqb (s .place) (c .found)) ≡ false → Unfit l end s
+      at-record : s .outcome ≢ 1 → (t : Bool) → ltb (s .number) (c .count) ≡ t
+          → (t && eqb (s .place) (c .found)) ≡ false → Unfit l end s
       at-record o true e h =
           let n : s .number < length l = subst (λ (k : ℕ). s .number < k) (count-is l end s) (ltb-true _ _ e) in
-          place-not-start o (λ q. eqb-false _ _ h (q ∙ sym (place-at l end (s .number) n) ∙ sym (found-is l end s n .0)))
-      at-record o false e h = number-without-record o (subst (λ (k : ℕ). k ≤ s .number) (count-is l end s) (ltb-false _ _ e))
+          place-not-start o
+          (λ q. eqb-false _ _ h (q ∙ sym (place-at l end (s .number) n) ∙ sym (found-is l end s n .0)))
+      at-record o false e h =
+          number-without-record o (subst (λ (k : ℕ). k ≤ s .number) (count-is l end s) (ltb-false _ _ e))
 
       by : (t : Bool) → eqb (s .outcome) 1 ≡ t
-          → (if t then eqb (s .number) (c .count) && eqb (s .place) end else ltb (s .number) (c .count) && eqb (s .place) (c .found)) ≡ false → Unfit l end s
+          → (if t then eqb (s .number) (c .count) && eqb (s .place) end else
+          ltb (s .number) (c .count) && eqb (s .place) (c .found)) ≡ false → Unfit l end s
       by true e h = at-end (eqb-true _ _ e) _ refl h
       by false e h = at-record (eqb-false _ _ e) _ refl h
 
@@ -92,10 +100,13 @@ module _ (l : List Item) (end : ℕ) (s : State) where
   too-many-passes h = by (eqb (s .outcome) 0) refl h
     where
       walking-on : s .outcome ≡ 0 → c .limit ≤ s .passes → (t : Bool) → ltb (s .number) (length l) ≡ t → Unfit l end s
-      walking-on o h true e = let n = ltb-true _ _ e in passes-at-limit n (subst (λ (k : ℕ). k ≤ s .passes) (found-is l end s n .1) h)
+      walking-on o h true e =
+          let n = ltb-true _ _ e in
+          passes-at-limit n (subst (λ (k : ℕ). k ≤ s .passes) (found-is l end s n .1) h)
       walking-on o h false e = number-without-record (λ q. omega (arith, o, q)) (ltb-false _ _ e)
 
-      by : (t : Bool) → eqb (s .outcome) 0 ≡ t → (if t then ltb (s .passes) (c .limit) else eqb (s .passes) 0) ≡ false → Unfit l end s
+      by : (t : Bool) → eqb (s .outcome) 0 ≡ t → (if t then ltb (s .passes) (c .limit) else eqb (s .passes) 0) ≡ false
+          → Unfit l end s
       by true e h = walking-on (eqb-true _ _ e) (ltb-false _ _ h) _ refl
       by false e h = passes-once-ended (eqb-false _ _ e) (eqb-false _ _ h)
 
@@ -106,7 +117,9 @@ module _ (l : List Item) (end : ℕ) (s : State) where
   unfolding beamGood
   bad-beam h =
       ⊎-elim
-      (λ h. ⊎-elim (λ h. ⊎-elim ray-not-finite path-not-finite (one-false _ _ h)) index-not-finite (one-false _ (finite (s .beam .index)) h))
+      (λ h.
+      ⊎-elim (λ h. ⊎-elim ray-not-finite path-not-finite (one-false _ _ h)) index-not-finite
+      (one-false _ (finite (s .beam .index)) h))
       (λ h. index-not-positive (not-false _ h))
       (one-false _ (not (s .beam .index ≤₆₄ 0f)) h)
 

@@ -15,10 +15,12 @@ use Rattle.recipe.proofs.Scans.{scan-sound}
 use Rattle.trace.specs.declared.run.Answer.{Answer}
 use Rattle.trace.specs.Unbroken.{Trace, Mark, unbroken, total, rows, padded}
 use Rattle.trace.specs.State.{Held, held, advance}
-use Rattle.trace.specs.Trace.{mostRecords, Reply, recipeOf, itemsOf, opticsOf, blank, beamOf, firstState, accept, begunOf, startAt, wholeOf}
-use Rattle.trace.specs.Ready.{Ready}
+use Rattle.trace.specs.Run.{mostRecords, Reply, recipeOf, itemsOf, opticsOf, blank, beamOf, firstState, accept}
+use Rattle.trace.specs.Run.{begunOf, startAt, wholeOf}
+use Rattle.trace.specs.Parts.{Ready}
 use Rattle.trace.proofs.Standing.{total-limit, finished-all, at-end}
-use Rattle.trace.proofs.Starts.{Finding, finds-good, finding, start-is, Admitted, admitted-by, admitted-is, refused-alike, no-items, limits-few}
+use Rattle.trace.proofs.Starts.{Finding, finds-good, finding, start-is, Admitted, admitted-by, admitted-is}
+use Rattle.trace.proofs.Starts.{refused-alike, no-items, limits-few}
 use Rattle.trace.proofs.Demand3.{shown, sound}
 
 -- what a check counted
@@ -26,7 +28,9 @@ counted : (c : Checked) (r : Scan) → Finding 0 c r → r ≡ items (itemsIn r)
 counted c (refused n p) s g = absurd (no-items g)
 counted c (items l) (finds-good e n k) g = k
 
-module _ (y : List ℕ) (ray : Ray) (index : Float) (z : List Float) (c : Checked) (checked : c ≡ checkOf y mostRecords 0) (w : List Float) (blanked : w ≡ blank z)
+module _ (y : List ℕ) (ray : Ray) (index : Float) (z : List Float)
+    (c : Checked) (checked : c ≡ checkOf y mostRecords 0)
+    (w : List Float) (blanked : w ≡ blank z)
     (a : Answer) (begun : a ≡ begunOf c 0 ray index (length w)) where
   started : record { answer = a; buffer = w } ≡ startAt 0 y ray index z
   started = start-is y c checked 0 ray index z w a blanked begun
@@ -34,34 +38,52 @@ module _ (y : List ℕ) (ray : Ray) (index : Float) (z : List Float) (c : Checke
   pub whole-refused : a .number ≢ 1 → record { answer = a; buffer = w } ≡ wholeOf y ray index z
   unfolding startAt wholeOf
   whole-refused h =
-      started ∙ refused-alike 0 ray index (blank z) (recipeOf y) _ _ (λ l. refl) (λ e. h (ap (λ (r : Reply). r .answer .number) started ∙ e))
+      let same = ap (λ (r : Reply). r .answer .number) started in
+      started ∙ refused-alike 0 ray index (blank z) (recipeOf y) _ _ (λ l. refl) (λ e. h (same ∙ e))
 
   module _ (h : a .number ≡ 1) where
     admission : Admitted (recipeOf y) ray index (blank z)
     unfolding startAt
-    admission = admitted-by 0 ray index (blank z) (recipeOf y) (scan-sound y mostRecords 0) _ (sym (ap (λ (r : Reply). r .answer .number) started) ∙ h)
+    admission =
+        let same = ap (λ (r : Reply). r .answer .number) started in
+        admitted-by 0 ray index (blank z) (recipeOf y) (scan-sound y mostRecords 0) _ (sym same ∙ h)
 
     first-is : a .state ≡ firstState (length (itemsOf y)) (beamOf ray index)
     unfolding startAt
-    first-is = ap (λ (r : Reply). r .answer .state) (started ∙ admitted-is 0 ray index (blank z) (recipeOf y) admission _)
+    first-is =
+        ap (λ (r : Reply). r .answer .state) (started ∙ admitted-is 0 ray index (blank z) (recipeOf y) admission _)
+
+    first-ready : Ready y (length (blank z)) (c .count) (firstState (length (itemsOf y)) (beamOf ray index))
+    unfolding advance
+    first-ready =
+        let k = counted c (recipeOf y) (finding y 0 c checked) (admission .good) in
+        let r = admission .room in
+        record { good = admission .good; counted = k; fits = omega arith; fit = sound y ray index z admission 0 .fit }
 
     pub whole-ready : Ready y (length w) (c .count) (a .state) × (a .state .steps < 2 ^ 62)
-    unfolding advance
-    whole-ready =
-        let k = counted c (recipeOf y) (finding y 0 c checked) (admission .good) in
-        (rw (first-is, blanked) (record { good = admission .good; counted = k; fits = let r = admission .room in omega arith; fit = sound y ray index z admission 0 .fit }), rw first-is (omega arith))
+    whole-ready = (rw (first-is, blanked) first-ready, rw first-is (omega arith))
 
     abbrev u : Trace
-    u = unbroken (opticsOf (itemsOf y)) (beamOf ray index)
+    u = unbroken 0 (opticsOf (itemsOf y)) (beamOf ray index)
 
     enough : total (u .marks) ≤ 65535
-    enough = omega (arith, total-limit (itemsOf y) (beamOf ray index), limits-few y)
+    enough = omega (arith, total-limit 0 (itemsOf y) (beamOf ray index), limits-few y)
 
     pub whole-done : (g : Held) → g ≡ advance (itemsOf y) 65535 (held (a .state) w) → accept g ≡ wholeOf y ray index z
     unfolding wholeOf
     whole-done g e =
         let s = shown y ray index z admission 65535 in
         let state = s .state ∙ at-end (itemsOf y) (length y) 0 0 65535 (beamOf ray index) enough in
-        let buffer = s .buffer ∙ ap (λ (l : List Mark). padded (length z) (rows l)) (finished-all (u .marks) 65535 enough) in
-        rw (e, first-is, blanked, state, buffer, zero-add (u .hits), zero-add (total (u .marks)), length-replicate (length z) 0f)
+        let all = finished-all (u .marks) 65535 enough in
+        let buffer = s .buffer ∙ ap (λ (l : List Mark). padded (length z) (rows l)) all in
+        rw (
+          e,
+          first-is,
+          blanked,
+          state,
+          buffer,
+          zero-add (u .hits),
+          zero-add (total (u .marks)),
+          length-replicate (length z) 0f,
+        )
         (sym (rw (admitted-is 0 ray index (blank z) (recipeOf y) admission _)))

@@ -1,5 +1,5 @@
--- Worked cases of start, continue and whole, document 01's example among them: one list, which one theorem covers.
--- A row has a rule's answer and the paper's, each as numbers: the answer's number and place, the state's counts, and
+-- Worked cases of start, continue and whole, the example of SCOPE L4 among them: one list, which one theorem covers.
+-- A row has a rule's answer and the right one, each as numbers: the answer's number and place, the state's counts, and
 -- the bit patterns of the state's numbers and of the whole result buffer. Assumes nothing.
 use Prim.Native.Nat.{ℕ, _+_, _*_, _^_}
 use mathlib.Core.Path.{_≡_, refl}
@@ -9,32 +9,39 @@ use lib.ListN.{length, replicate}
 use lib.Ieee.{Float, nan, inf, binary64, ofBits, toBits, ofInt, neg, round, add, sub, mul, div, lt, le, eq, isNan}
 use Rattle.numbers.specs.Arithmetic.{decimal, 0f, 1f, 2f, 4f}
 use Rattle.numbers.specs.Basic.{magnitude, negative, larger, clamped, infinite}
-use Rattle.numbers.specs.Sqrt.{root}
+use Rattle.numbers.specs.Root.{root}
 use Rattle.surfaces.specs.Types.{vec, zeros, dotOf, overOf, distance, pointAt, allFinite, rayFinite, everyFinite}
 use Rattle.surfaces.specs.Snell.{turnedIf, negatedIf, mirrored, reflected, bent, refracted}
 use Rattle.surfaces.specs.Conic.{landedWithin, planeCrossing, conicCrossing, normalAt}
-use Rattle.surfaces.specs.Newton.{arrivedAt, movedBy, passAt, vertexPlane, passesFrom, newtonEnd, passStart, nextPass, limitedPass}
-use Rattle.surfaces.specs.Asphere.{powerSumFrom, slopeSumFrom, baseRoot, baseSag, baseSlope, evenDepth, evenSlopeFrom, evenSlope, radialSlopes, evenSlopes, lengthOf, facingOf, evenFacing, evenNormal}
-use Rattle.surfaces.specs.Surface.{passRule, surfaceEnd, limitOf, surfaceNormal, onwardFrom, turnRule}
+use Rattle.surfaces.specs.Newton.{arrivedAt, movedBy, passAt, vertexPlane, passesFrom, newtonEnd, passStart, nextPass}
+use Rattle.surfaces.specs.Newton.{limitedPass}
+use Rattle.surfaces.specs.Asphere.{powerSumFrom, slopeSumFrom, baseSag, baseSlope, evenSag, evenSlope, radialSlopes}
+use Rattle.surfaces.specs.Asphere.{evenSlopes, lengthOf, facingOf, evenFacing, evenNormal}
+use Rattle.surfaces.specs.Surface.{passAnswer, surfaceEnd, limitOf, surfaceNormal, onwardFrom, turnAnswer}
 use Rattle.surfaces.specs.Edges.{_over_, whole, bits, coordinates, Case, _⇒_, agree, ray}
 use Rattle.surfaces.specs.declared.types.Vec3.{Vec3}
 use Rattle.recipe.specs.Endian.{u16At, u64At, numberAt, numbersAt}
-use Rattle.recipe.specs.Record.{slotAt, lengthFits, shapedAt, semiSlot, kindOf, coefficientCount, coefficientsAt, opticAt, negativeSemi, recordAt}
+use Rattle.recipe.specs.Record.{slotAt, lengthFits, shapedAt, semiSlot, kindOf, coefficientCount, coefficientsAt}
+use Rattle.recipe.specs.Record.{opticAt, negativeSemi, recordAt}
 use Rattle.recipe.specs.Scan.{scan, placeOf, notes}
 use Rattle.recipe.specs.Source.{isSource, vectorAt, sourceOf}
 use Rattle.trace.specs.declared.leg.Beam.{Beam}
 use Rattle.trace.specs.declared.state.State.{State}
-use Rattle.trace.specs.Leg.{boundaryOf, farther, legFinite, legOf, beamAfter, hitRow, refusalRow, rowOf}
+use Rattle.trace.specs.Leg.{boundaryOf, share, legFinite, legOf, beamAfter, hitRow, refusalRow, rowOf}
 use Rattle.trace.specs.Unbroken.{unbroken, total, rows, padded}
-use Rattle.trace.specs.State.{pausedAt, stateAfter, surfaceLeft, stepOn, move, advance, outcomeKnown, placeFits, passesFit, beamGood, fitsOf}
-use Rattle.trace.specs.Trace.{recipeOf, Reply, refusedAnswer, admission, startAt, startOf, startFileOf, continueOn, continueOf, wholeOf}
+use Rattle.trace.specs.State.{pausedAt, stateAfter, surfaceLeft, stepOn, move, advance, outcomeKnown, placeFits}
+use Rattle.trace.specs.State.{passesFit, beamGood, fitsOf}
+use Rattle.trace.specs.Run.{recipeOf, Reply, refusedAnswer, admission, startAt, startOf, continueOn, continueOf}
+use Rattle.trace.specs.Run.{wholeOf}
+use Rattle.trace.specs.File.{startFileOf}
 use Rattle.trace.specs.Example.{bytes, patterns, beamRecord, planeRecord}
 
 -- an answer's number and place, a state and a buffer, as numbers
 abbrev pub shown : ℕ → ℕ → State → List Float → List ℕ
 shown number place s z =
+    let b = s .beam in
     number ∷ place ∷ s .number ∷ s .place ∷ s .passes ∷ s .steps ∷ s .outcome
-    ∷ bits (s .t ∷ coordinates (s .beam .ray .origin) ++ coordinates (s .beam .ray .direction) ++ s .beam .index ∷ s .beam .path ∷ z)
+    ∷ bits (s .t ∷ coordinates (b .ray .origin) ++ coordinates (b .ray .direction) ++ b .index ∷ b .path ∷ z)
 
 -- what a call on a recipe leaves; bytes and reply are bound by a `let`, so that each is computed once
 unfoldable pub on : List ℕ → (List ℕ → Reply) → List ℕ
@@ -93,7 +100,7 @@ plane v index semi = surface 1 (v ∷ index ∷ 0f ∷ 0f ∷ semi ∷ [])
 abbrev pub mirror : Float → Float → Float → List ℕ
 mirror v index semi = surface 257 (v ∷ index ∷ 0f ∷ 0f ∷ semi ∷ [])
 
--- document 01's even asphere, z = r² / 8 into index 1, by its semi-diameter
+-- the even asphere of SCOPE E5, z = r² / 8 into index 1, by its semi-diameter
 abbrev pub bowl : Float → List ℕ
 bowl semi = surface 2 (0f ∷ 1f ∷ 0f ∷ 0f ∷ semi ∷ 1 over 8 ∷ [])
 
@@ -154,7 +161,7 @@ abbrev pub √½ : Float
 
 unfoldable pub cases : List Case
 cases =
-    -- document 01's example: the start of its file takes no step and blanks the whole buffer; its trace is as printed
+    -- SCOPE L4: the start of its file takes no step and blanks the whole buffer; its trace is as printed
     (on (beamRecord ++ planeRecord) (λ b. startFileOf b (stale 14)) ⇒
     shown 1 0 (state 0 0 0 0f (beam (vec 0f 0f (neg (whole 5))) z 1f 0f) 0 0) (blanks 14)) ∷
     (on planeRecord (λ b. wholeOf b (ray (vec 0f 0f (neg (whole 5))) z) 1f (stale 14)) ⇒
@@ -169,7 +176,8 @@ cases =
     -- the same in one
     (on lens (λ b. wholeOf b (before .ray) 1f (stale 27)) ⇒ shown 1 0 ended (first ++ second ++ blanks 1)) ∷
     -- t so far may be any number and is unused at pass count 0
-    (on lens (λ b. continueOf b (state 1 44 0 nan inside 1 0) (first ++ blanks 14) 1) ⇒ shown 1 0 paused (first ++ blanks 14)) ∷
+    (on lens (λ b. continueOf b (state 1 44 0 nan inside 1 0) (first ++ blanks 14) 1) ⇒
+    shown 1 0 paused (first ++ blanks 14)) ∷
     -- a 25th pass that ends in nothing else is a miss after 25 steps
     (on lens (λ b. continueOf b (state 1 44 24 0f inside 25 0) (first ++ blanks 14) 1) ⇒
     shown 1 0 (state 1 44 0 0f inside 26 6) (first ++ refusal (whole 6) 0f 0f (whole 25) ++ blanks 1)) ∷
@@ -180,26 +188,34 @@ cases =
     shown 1 0 (state 3 132 0 0f (beam (vec 0f 0f 2f) -z 1f (whole 7)) 3 1)
     (hit 1f zeros -z z 1f 1f ++ hit 4f (vec 0f 0f 4f) -z -z 1f 1f ++ hit 2f (vec 0f 0f 2f) -z -z 0f 1f)) ∷
     (on folded (λ b. continueOf b (state 1 44 0 0f (beam zeros z 2f 1f) 1 0) (blanks 39) 1) ⇒
-    shown 1 0 (state 2 88 0 0f (beam (vec 0f 0f 4f) -z 2f (whole 5)) 2 0) (blanks 13 ++ hit 4f (vec 0f 0f 4f) -z -z 1f 1f ++ blanks 13)) ∷
+    shown 1 0 (state 2 88 0 0f (beam (vec 0f 0f 4f) -z 2f (whole 5)) 2 0)
+    (blanks 13 ++ hit 4f (vec 0f 0f 4f) -z -z 1f 1f ++ blanks 13)) ∷
     -- so from index 2 it is totally reflected at the bowl behind a mirror of index 1, out of which it would pass
     (on (mirror 4f 1f (whole 10) ++ bowl (whole 5)) (λ b. wholeOf b (before .ray) 2f (stale 26)) ⇒
-    shown 1 0 (state 1 44 0 0f (beam (vec 4f 0f 4f) -z 2f (whole 5)) 3 8) (hit (whole 5) (vec 4f 0f 4f) -z -z 1f 1f ++ refusal (whole 8) 0f 0f 2f)) ∷
+    shown 1 0 (state 1 44 0 0f (beam (vec 4f 0f 4f) -z 2f (whole 5)) 3 8)
+    (hit (whole 5) (vec 4f 0f 4f) -z -z 1f 1f ++ refusal (whole 8) 0f 0f 2f)) ∷
     -- a refusal in the middle, 7 with r and limit: blanks behind its record, the beam of the hit before it
     (on narrow (λ b. wholeOf b (ray (vec 2f 0f (neg 1f)) z) 1f (stale 40)) ⇒
-    shown 1 0 (state 1 44 0 0f between 2 7) (hit 1f (vec 2f 0f 0f) -z z 1f 1f ++ refusal (whole 7) 2f 1f 1f ++ blanks 14)) ∷
+    shown 1 0 (state 1 44 0 0f between 2 7)
+    (hit 1f (vec 2f 0f 0f) -z z 1f 1f ++ refusal (whole 7) 2f 1f 1f ++ blanks 14)) ∷
     (on narrow (λ b. continueOf b (state 1 44 0 0f between 1 0) (blanks 40) 9) ⇒
     shown 1 0 (state 1 44 0 0f between 2 7) (blanks 13 ++ refusal (whole 7) 2f 1f 1f ++ blanks 14)) ∷
     -- 9: t is infinite
-    (on (plane (whole (10 ^ 308)) 1f (whole 10)) (λ b. wholeOf b (ray (vec 0f 0f (neg (whole (10 ^ 308)))) z) 1f (stale 13)) ⇒
+    (on (plane (whole (10 ^ 308)) 1f (whole 10))
+    (λ b. wholeOf b (ray (vec 0f 0f (neg (whole (10 ^ 308)))) z) 1f (stale 13)) ⇒
     shown 1 0 (state 0 0 0 0f (beam (vec 0f 0f (neg (whole (10 ^ 308)))) z 1f 0f) 1 9) (refusal (whole 9) 0f 0f 1f)) ∷
-    -- document 01's even asphere: a hit after 2 steps, 7 after 2, 6 after 1
+    -- SCOPE E5: a hit after 2 steps, 7 after 2, 6 after 1
     (on (bowl (whole 5)) (λ b. wholeOf b (before .ray) 1f (stale 13)) ⇒
-    shown 1 0 (state 1 52 0 0f (beam (vec 4f 0f 2f) z 1f (whole 3)) 2 1) (hit (whole 3) (vec 4f 0f 2f) (vec √½ 0f (neg √½)) z 1f 2f)) ∷
-    (on (bowl (whole 3)) (λ b. wholeOf b (before .ray) 1f (stale 13)) ⇒ shown 1 0 (state 0 0 0 0f before 2 7) (refusal (whole 7) 4f (whole 3) 2f)) ∷
-    (on (bowl 2f) (λ b. wholeOf b (before .ray) 1f (stale 13)) ⇒ shown 1 0 (state 0 0 0 0f before 1 6) (refusal (whole 6) 0f 0f 1f)) ∷
+    shown 1 0 (state 1 52 0 0f (beam (vec 4f 0f 2f) z 1f (whole 3)) 2 1)
+    (hit (whole 3) (vec 4f 0f 2f) (vec √½ 0f (neg √½)) z 1f 2f)) ∷
+    (on (bowl (whole 3)) (λ b. wholeOf b (before .ray) 1f (stale 13)) ⇒
+    shown 1 0 (state 0 0 0 0f before 2 7) (refusal (whole 7) 4f (whole 3) 2f)) ∷
+    (on (bowl 2f) (λ b. wholeOf b (before .ray) 1f (stale 13)) ⇒
+    shown 1 0 (state 0 0 0 0f before 1 6) (refusal (whole 6) 0f 0f 1f)) ∷
     -- refused starts leave blanks and no state: a record's refusal, with its place, before the ray's; in a file the
     -- place counts from the file's start, and without a ray's record it is 10 at 0
-    (on (plane 0f 1f 1f ++ plane 0f 0f 1f) (λ b. startOf b (ray (vec nan 0f 0f) z) 1f (stale 27)) ⇒ shown 4 44 (refused 4) (blanks 27)) ∷
+    (on (plane 0f 1f 1f ++ plane 0f 0f 1f) (λ b. startOf b (ray (vec nan 0f 0f) z) 1f (stale 27)) ⇒
+    shown 4 44 (refused 4) (blanks 27)) ∷
     (on (beamRecord ++ plane 0f 1f (neg 1f)) (λ b. startFileOf b (stale 14)) ⇒ shown 3 60 (refused 3) (blanks 14)) ∷
     (on planeRecord (λ b. startFileOf b (stale 14)) ⇒ shown 10 0 (refused 10) (blanks 14)) ∷
     -- then the ray's 2, the index's 4, and 11
@@ -216,23 +232,39 @@ cases =
     -- under outcome 1 the number, which is the count of records, and the place, which is the recipe's end
     (answered lens (ended ∷ state 1 104 0 0f behind 3 1 ∷ state 2 44 0 0f behind 3 1 ∷ []) ⇒ 1 ∷ 12 ∷ 12 ∷ []) ∷
     -- under another the place, which is the start of the record with that number; at the count there is no record
-    (answered lens (started ∷ state 0 44 0 0f before 0 0 ∷ state 1 0 0 0f inside 1 0 ∷ state 2 104 0 0f behind 3 0 ∷ []) ⇒ 1 ∷ 12 ∷ 12 ∷ 12 ∷ []) ∷
+    (answered lens
+    (started ∷ state 0 44 0 0f before 0 0 ∷ state 1 0 0 0f inside 1 0 ∷ state 2 104 0 0f behind 3 0 ∷ []) ⇒
+    1 ∷ 12 ∷ 12 ∷ 12 ∷ []) ∷
     -- the pass count, which is below the limit: 1 for a conic, 25 for an even asphere, 35 for a biconic or toroid
-    (answered lens (state 0 0 1 0f before 1 0 ∷ state 1 44 24 0f inside 25 0 ∷ state 1 44 25 0f inside 25 0 ∷ []) ⇒ 12 ∷ 1 ∷ 12 ∷ []) ∷
+    (answered lens (state 0 0 1 0f before 1 0 ∷ state 1 44 24 0f inside 25 0 ∷ state 1 44 25 0f inside 25 0 ∷ []) ⇒
+    12 ∷ 1 ∷ 12 ∷ []) ∷
     (answered
     (surface 3 (0f ∷ 1f ∷ 0f ∷ 0f ∷ 0f ∷ 0f ∷ 1f ∷ []) ++ surface 4 (0f ∷ 1f ∷ 1f ∷ 0f ∷ 0f ∷ 1f ∷ []))
-    (state 0 0 34 0f before 34 0 ∷ state 0 0 35 0f before 35 0 ∷ state 1 60 34 0f inside 35 0 ∷ state 1 60 35 0f inside 36 0 ∷ []) ⇒ 1 ∷ 12 ∷ 1 ∷ 12 ∷ []) ∷
+    (state 0 0 34 0f before 34 0 ∷ state 0 0 35 0f before 35 0
+    ∷ state 1 60 34 0f inside 35 0 ∷ state 1 60 35 0f inside 36 0 ∷ []) ⇒
+    1 ∷ 12 ∷ 1 ∷ 12 ∷ []) ∷
     -- and once ended is 0
     (answered lens (paused ∷ state 1 44 1 0f inside 2 6 ∷ state 2 104 1 0f behind 3 1 ∷ []) ⇒ 1 ∷ 12 ∷ 12 ∷ []) ∷
     -- all steps, which are at most the sum of all limits, 26
     (answered lens (state 1 44 0 0f inside 26 0 ∷ state 1 44 0 0f inside 27 0 ∷ []) ⇒ 1 ∷ 12 ∷ []) ∷
     -- ray and path, which are finite
-    (answered lens (map
-    (λ b. state 1 44 0 0f b 1 0)
-    (inside ∷ beam (vec nan 0f 0f) z 2f 1f ∷ beam zeros (vec 0f 0f (inf false)) 2f 1f ∷ beam zeros z 2f (inf true) ∷ [])) ⇒ 1 ∷ 12 ∷ 12 ∷ 12 ∷ []) ∷
+    (answered lens (map (λ b. state 1 44 0 0f b 1 0)
+    (inside ∷ beam (vec nan 0f 0f) z 2f 1f
+    ∷ beam zeros (vec 0f 0f (inf false)) 2f 1f ∷ beam zeros z 2f (inf true) ∷ [])) ⇒
+    1 ∷ 12 ∷ 12 ∷ 12 ∷ []) ∷
     -- the index, which is finite and positive
-    (answered lens (map (λ n. state 1 44 0 0f (beam zeros z n 1f) 1 0) (1f ∷ inf false ∷ nan ∷ 0f ∷ neg 1f ∷ [])) ⇒ 1 ∷ 12 ∷ 12 ∷ 12 ∷ 12 ∷ []) ∷ []
+    (answered lens (map (λ n. state 1 44 0 0f (beam zeros z n 1f) 1 0) (1f ∷ inf false ∷ nan ∷ 0f ∷ neg 1f ∷ [])) ⇒
+    1 ∷ 12 ∷ 12 ∷ 12 ∷ 12 ∷ []) ∷ []
 
 pub each-case : agree cases ≡ true
-unfolding cases lens folded narrow on answered bits _over_ bytes patterns beamRecord planeRecord decimal magnitude negative larger clamped infinite root neg round add sub mul div lt le eq isNan ofBits toBits ofInt dotOf overOf distance pointAt allFinite rayFinite everyFinite turnedIf negatedIf mirrored reflected bent refracted landedWithin planeCrossing conicCrossing normalAt arrivedAt movedBy passAt vertexPlane passesFrom newtonEnd passStart nextPass limitedPass powerSumFrom slopeSumFrom baseRoot baseSag baseSlope evenDepth evenSlopeFrom evenSlope radialSlopes evenSlopes lengthOf facingOf evenFacing evenNormal passRule surfaceEnd limitOf surfaceNormal onwardFrom turnRule u16At u64At numberAt numbersAt slotAt lengthFits shapedAt semiSlot kindOf coefficientCount coefficientsAt opticAt negativeSemi recordAt scan placeOf notes isSource vectorAt sourceOf boundaryOf farther legFinite legOf beamAfter hitRow refusalRow rowOf unbroken total rows padded pausedAt stateAfter surfaceLeft stepOn move advance outcomeKnown placeFits passesFit beamGood fitsOf refusedAnswer admission startAt startOf startFileOf continueOf wholeOf
+unfolding cases lens folded narrow on answered bits _over_ bytes patterns beamRecord planeRecord decimal magnitude
+    negative larger clamped infinite root neg round add sub mul div lt le eq isNan ofBits toBits ofInt dotOf overOf
+    distance pointAt allFinite rayFinite everyFinite turnedIf negatedIf mirrored reflected bent refracted landedWithin
+    planeCrossing conicCrossing normalAt arrivedAt movedBy passAt vertexPlane passesFrom newtonEnd passStart nextPass
+    limitedPass powerSumFrom slopeSumFrom baseSag baseSlope evenSag evenSlope radialSlopes evenSlopes lengthOf facingOf
+    evenFacing evenNormal passAnswer surfaceEnd limitOf surfaceNormal onwardFrom turnAnswer u16At u64At numberAt
+    numbersAt slotAt lengthFits shapedAt semiSlot kindOf coefficientCount coefficientsAt opticAt negativeSemi recordAt
+    scan placeOf notes isSource vectorAt sourceOf boundaryOf share legFinite legOf beamAfter hitRow refusalRow rowOf
+    unbroken total rows padded pausedAt stateAfter surfaceLeft stepOn move advance outcomeKnown placeFits passesFit
+    beamGood fitsOf refusedAnswer admission startAt startOf startFileOf continueOf wholeOf
 each-case = refl

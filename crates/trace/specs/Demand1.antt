@@ -1,5 +1,6 @@
--- Demand 1. Every call ends with an answer or a refusal from document 01's table, for every input. A refused start blanks the whole result buffer, a refused
--- continuation changes nothing, and 12 is given exactly if the state does not fit. Definitions only.
+-- Demand 1. Every call ends with an answer or a refusal from SCOPE's table, for every input. A refused start blanks the
+-- whole result buffer, a refused continuation changes nothing, and 12 is given exactly if the state does not fit.
+-- Definitions only.
 use Prim.Native.Nat.{ℕ, _+_, _*_, _≤_, _<_}
 use mathlib.Core.Path.{_≡_}
 use mathlib.Core.Logic.{_≢_, _↔_, _⊎_}
@@ -10,7 +11,7 @@ use lib.Ieee.{Float}
 use lib.Ieee.Scale.{finite}
 use Rattle.numbers.specs.Arithmetic.{_≤₆₄_, 0f}
 use Rattle.surfaces.specs.Types.{rayFinite}
-use Rattle.surfaces.specs.Demand1.{oneOf}
+use Rattle.numbers.specs.Arithmetic.{oneOf}
 use Rattle.surfaces.specs.Surface.{limitOf}
 use Rattle.surfaces.specs.declared.types.Ray.{Ray}
 use Rattle.recipe.specs.declared.record.Optic.{Optic}
@@ -19,7 +20,8 @@ use Rattle.recipe.specs.Scan.{Item, items, itemAt, sumLimits}
 use Rattle.recipe.specs.Source.{sourceBytes}
 use Rattle.trace.specs.declared.state.State.{State}
 use Rattle.trace.specs.Leg.{width}
-use Rattle.trace.specs.Trace.{Reply, recipeOf, itemsOf, noBeam, startOf, startFileOf, continueOf, wholeOf}
+use Rattle.trace.specs.Run.{Reply, recipeOf, itemsOf, noBeam, startOf, continueOf, wholeOf}
+use Rattle.trace.specs.File.{startFileOf}
 
 -- a place where good records, one behind the other from the recipe's first byte on, end: 0 if there are none
 pub data GoodUpTo (b : List ℕ) : ℕ → Type 0 where
@@ -31,10 +33,12 @@ pub record Answers (numbers b : List ℕ) (r : Reply) : Type 0 where
   pub number : oneOf numbers (r .answer .number) ≡ true
   pub place : GoodUpTo b (r .answer .place)
 
--- What a refused start leaves: +0.0 in every number of the buffer, and a state whose outcome is the refusal and all else 0.
+-- What a refused start leaves: +0.0 in every number of the buffer, and a state of which the outcome is the refusal and
+-- all else 0.
 pub record Blanked (z : List Float) (r : Reply) : Type 0 where
   pub buffer : r .buffer ≡ replicate (length z) 0f
-  pub state : r .answer .state ≡ record { number = 0; place = 0; passes = 0; t = 0f; beam = noBeam; steps = 0; outcome = r .answer .number }
+  pub state : r .answer .state
+      ≡ record { number = 0; place = 0; passes = 0; t = 0f; beam = noBeam; steps = 0; outcome = r .answer .number }
 
 -- What a refused continuation leaves: all as it was.
 pub record Unchanged (s : State) (z : List Float) (r : Reply) : Type 0 where
@@ -53,7 +57,8 @@ pub data Unfit (l : List Item) (end : ℕ) (s : State) : Type 0 where
   place-not-start : s .outcome ≢ 1 → s .place ≢ itemAt l (s .number) .at → Unfit l end s
   number-without-record : s .outcome ≢ 1 → length l ≤ s .number → Unfit l end s
   -- the pass count is at or above that surface's limit
-  passes-at-limit : s .number < length l → limitOf (itemAt l (s .number) .optic .surface .kind) ≤ s .passes → Unfit l end s
+  passes-at-limit : s .number < length l → limitOf (itemAt l (s .number) .optic .surface .kind) ≤ s .passes
+      → Unfit l end s
   -- or, once ended, not 0
   passes-once-ended : s .outcome ≢ 0 → s .passes ≢ 0 → Unfit l end s
   -- all steps are above the sum of all limits
@@ -73,19 +78,27 @@ pub record Refused12 (b : List ℕ) (s : State) (z : List Float) : Type 0 where
 
 pub record Demand1 : Type 0 where
   -- accepted, a bad number or ray, a malformed recipe, no room
-  pub start : (b : List ℕ) (ray : Ray) (index : Float) (z : List Float) → Answers (1 ∷ 2 ∷ 3 ∷ 4 ∷ 10 ∷ 11 ∷ []) b (startOf b ray index z)
-  pub whole : (b : List ℕ) (ray : Ray) (index : Float) (z : List Float) → Answers (1 ∷ 2 ∷ 3 ∷ 4 ∷ 10 ∷ 11 ∷ []) b (wholeOf b ray index z)
+  pub start : (b : List ℕ) (ray : Ray) (index : Float) (z : List Float)
+      → Answers (1 ∷ 2 ∷ 3 ∷ 4 ∷ 10 ∷ 11 ∷ []) b (startOf b ray index z)
+  pub whole : (b : List ℕ) (ray : Ray) (index : Float) (z : List Float)
+      → Answers (1 ∷ 2 ∷ 3 ∷ 4 ∷ 10 ∷ 11 ∷ []) b (wholeOf b ray index z)
   -- or a state that does not fit
-  pub resume : (b : List ℕ) (s : State) (z : List Float) (allowed : ℕ) → Answers (1 ∷ 2 ∷ 3 ∷ 4 ∷ 10 ∷ 11 ∷ 12 ∷ []) b (continueOf b s z allowed)
+  pub resume : (b : List ℕ) (s : State) (z : List Float) (allowed : ℕ)
+      → Answers (1 ∷ 2 ∷ 3 ∷ 4 ∷ 10 ∷ 11 ∷ 12 ∷ []) b (continueOf b s z allowed)
   -- in a program's file, whose places count from its start
-  pub file-number : (f : List ℕ) (z : List Float) → oneOf (1 ∷ 2 ∷ 3 ∷ 4 ∷ 10 ∷ 11 ∷ []) (startFileOf f z .answer .number) ≡ true
+  pub file-number : (f : List ℕ) (z : List Float)
+      → oneOf (1 ∷ 2 ∷ 3 ∷ 4 ∷ 10 ∷ 11 ∷ []) (startFileOf f z .answer .number) ≡ true
   pub file-place : (f : List ℕ) (z : List Float) → let p = startFileOf f z .answer .place in
       (p ≡ 0) ⊎ ((q : ℕ) × (p ≡ sourceBytes + q) × GoodUpTo (drop sourceBytes f) q)
   -- a refused start blanks the whole buffer
-  pub refused-start : (b : List ℕ) (ray : Ray) (index : Float) (z : List Float) → startOf b ray index z .answer .number ≢ 1 → Blanked z (startOf b ray index z)
-  pub refused-whole : (b : List ℕ) (ray : Ray) (index : Float) (z : List Float) → wholeOf b ray index z .answer .number ≢ 1 → Blanked z (wholeOf b ray index z)
+  pub refused-start : (b : List ℕ) (ray : Ray) (index : Float) (z : List Float)
+      → startOf b ray index z .answer .number ≢ 1 → Blanked z (startOf b ray index z)
+  pub refused-whole : (b : List ℕ) (ray : Ray) (index : Float) (z : List Float)
+      → wholeOf b ray index z .answer .number ≢ 1 → Blanked z (wholeOf b ray index z)
   pub refused-file : (f : List ℕ) (z : List Float) → startFileOf f z .answer .number ≢ 1 → Blanked z (startFileOf f z)
   -- a refused continuation changes nothing
-  pub refused-resume : (b : List ℕ) (s : State) (z : List Float) (allowed : ℕ) → continueOf b s z allowed .answer .number ≢ 1 → Unchanged s z (continueOf b s z allowed)
+  pub refused-resume : (b : List ℕ) (s : State) (z : List Float) (allowed : ℕ)
+      → continueOf b s z allowed .answer .number ≢ 1 → Unchanged s z (continueOf b s z allowed)
   -- 12 exactly if the recipe passes, there is room, and one of the conditions holds
-  pub twelve : (b : List ℕ) (s : State) (z : List Float) (allowed : ℕ) → (continueOf b s z allowed .answer .number ≡ 12) ↔ Refused12 b s z
+  pub twelve : (b : List ℕ) (s : State) (z : List Float) (allowed : ℕ)
+      → (continueOf b s z allowed .answer .number ≡ 12) ↔ Refused12 b s z

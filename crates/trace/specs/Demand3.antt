@@ -1,6 +1,7 @@
--- Demand 3. Take one recipe, one accepted start, one result buffer that nobody else writes, and each call given the state that the last returned. However the
--- step allowances are chosen, what stands after every call is told here by the surfaces' own ends, without the step: the records and the trace's end by the
--- unbroken trace, the state too, but for the t within a surface, which is that of the chain of its passes. Definitions only.
+-- Demand 3. Take one recipe, one accepted start, one result buffer that nobody else writes, and each call given the
+-- state that the last returned. However the step allowances are chosen, what stands after every call is told here by
+-- the surfaces' own ends, without the step: the records and the trace's end by the unbroken trace, and so the state,
+-- but for the t within a surface, which is that of the chain of its passes. Definitions only.
 use Prim.Native.Nat.{ℕ, suc, _+_, _-_, _≤_, _<_, min}
 use mathlib.Core.Path.{_≡_}
 use mathlib.Core.Logic.{_≢_, _↔_}
@@ -9,7 +10,7 @@ use lib.ListN.{length, take}
 use lib.Dec.{leb}
 use lib.Ieee.{Float}
 use Rattle.numbers.specs.Arithmetic.{if_then_else_, 0f}
-use Rattle.surfaces.specs.Told.{done}
+use Rattle.surfaces.specs.Refusal.{done}
 use Rattle.surfaces.specs.Surface.{surfaceEnd, limitOf, chain}
 use Rattle.surfaces.specs.declared.types.Ray.{Ray}
 use Rattle.surfaces.specs.declared.surface.Kind.the-variants.{Conic, Even, Biconic, Toroid}
@@ -18,7 +19,8 @@ use Rattle.trace.specs.declared.leg.Beam.{Beam}
 use Rattle.trace.specs.declared.state.State.{State}
 use Rattle.trace.specs.Leg.{legOf, beamAfter}
 use Rattle.trace.specs.Unbroken.{Mark, Trace, unbroken, total, finished, rows, padded}
-use Rattle.trace.specs.Trace.{Reply, itemsOf, opticsOf, beamOf, standing, startOf, continueOf}
+use Rattle.trace.specs.Run.{Reply, itemsOf, opticsOf, beamOf, startOf, continueOf}
+use Rattle.trace.specs.State.{standing}
 
 -- a row of calls, one for each allowance
 unfoldable pub calls : List ℕ → List ℕ → Reply → Reply
@@ -29,23 +31,32 @@ unfoldable pub sum : List ℕ → ℕ
 sum [] = 0
 sum (a ∷ l) = a + sum l
 
--- The state n steps on from the start of surface k, where l are the surfaces from k on and `end` is the recipe's end: before or behind a surface whose end n
--- reaches, or in the middle of one, after n passes of its own and at the t that these have come to.
+-- The state n steps on from the start of surface k, where l are the surfaces from k on and `end` is the recipe's end:
+-- before or behind a surface whose end n reaches, or in the middle of one, after n passes of its own and at the t that
+-- these have come to.
 unfoldable pub stateAt : List Item → ℕ → ℕ → Beam → ℕ → ℕ → State
 stateAt [] end k b steps n = standing k end b steps 1
 stateAt (i ∷ l) end k b steps n =
     let o = i .optic in
     let e = surfaceEnd (o .surface) (b .ray) in
-    let x = legOf o b (e .answer) in
+    let x = legOf k o b (e .answer) in
     if leb (e .passes) n then
     (if done x then stateAt l end (k + 1) (beamAfter o b (x .value)) (steps + e .passes) (n - e .passes) else
     standing k (i .at) b (steps + e .passes) (x .line .number))
     else
-    record { number = k; place = i .at; passes = n; t = chain (o .surface) (b .ray) n 0 0f .answer .value .t; beam = b; steps = steps + n; outcome = 0 }
+    record {
+      number = k;
+      place = i .at;
+      passes = n;
+      t = chain (o .surface) (b .ray) n 0 0f .answer .value .t;
+      beam = b;
+      steps = steps + n;
+      outcome = 0;
+    }
 
 -- the unbroken trace of a recipe
 unfoldable pub traceOf : List ℕ → Ray → Float → Trace
-traceOf b ray index = unbroken (opticsOf (itemsOf b)) (beamOf ray index)
+traceOf b ray index = unbroken 0 (opticsOf (itemsOf b)) (beamOf ray index)
 
 -- the steps of surface k and of all before it
 abbrev pub stepsTo : ℕ → List Mark → ℕ
@@ -90,12 +101,17 @@ called b ray index z allowances = calls b allowances (startOf b ray index z)
 
 pub record Demand3 : Type 0 where
   pub keeps : (b : List ℕ) (ray : Ray) (index : Float) (z : List Float) (allowances : List ℕ) → Accepted b ray index z
-      → Kept (traceOf b ray index) (stateAt (itemsOf b) (length b) 0 (beamOf ray index) 0 (sum allowances)) (length z) (sum allowances) (called b ray index z allowances)
+      → Kept (traceOf b ray index) (stateAt (itemsOf b) (length b) 0 (beamOf ray index) 0 (sum allowances)) (length z)
+      (sum allowances) (called b ray index z allowances)
   -- it has ended, with the unbroken trace's answer, once the allowances add up to the surfaces' limits
-  pub ends : (b : List ℕ) (ray : Ray) (index : Float) (z : List Float) (allowances : List ℕ) → Accepted b ray index z → sumLimits (itemsOf b) ≤ sum allowances
+  pub ends : (b : List ℕ) (ray : Ray) (index : Float) (z : List Float) (allowances : List ℕ) → Accepted b ray index z
+      → sumLimits (itemsOf b) ≤ sum allowances
       → Over (traceOf b ray index) (length z) (called b ray index z allowances)
   -- which are 1 for each conic, 25 for each even asphere, 35 for each biconic or toroid
-  pub limits : (c k cy ky : Float) → (limitOf (Conic c k) ≡ 1) × (limitOf (Even c k) ≡ 25) × (limitOf (Biconic c k cy ky) ≡ 35) × (limitOf (Toroid c k cy) ≡ 35)
+  pub limits : (c k cy ky : Float)
+      → (limitOf (Conic c k) ≡ 1) × (limitOf (Even c k) ≡ 25) × (limitOf (Biconic c k cy ky) ≡ 35)
+      × (limitOf (Toroid c k cy) ≡ 35)
   -- a state that a genuine run returns is never refused with 12, whatever the buffer
-  pub fits : (b : List ℕ) (ray : Ray) (index : Float) (z : List Float) (allowances : List ℕ) → Accepted b ray index z → (y : List Float) (n : ℕ)
+  pub fits : (b : List ℕ) (ray : Ray) (index : Float) (z : List Float) (allowances : List ℕ) → Accepted b ray index z
+      → (y : List Float) (n : ℕ)
       → continueOf b (called b ray index z allowances .answer .state) y n .answer .number ≢ 12

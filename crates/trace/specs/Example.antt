@@ -1,4 +1,4 @@
--- Document 01's example for `tracelist`: the bytes of its file. Definitions only.
+-- The example of SCOPE L4: the bytes of its file. Definitions only.
 use Prim.Native.Nat.{ℕ, zero, suc, _/_, _%_}
 use mathlib.Core.List.{List, [], _∷_, _++_}
 

@@ -1,4 +1,5 @@
--- A beam's way to a surface and on from it: what a step that ends a surface does, and the record that it leaves. Definitions only.
+-- A beam's way to a surface and on from it: what a step that ends a surface does, and the record that it leaves.
+-- Definitions only.
 use Prim.Native.Nat.{ℕ}
 use mathlib.Core.List.{List, [], _∷_}
 use mathlib.Core.Bool.{Bool, false, _&&_}
@@ -7,8 +8,8 @@ use lib.Ieee.{Float, binary64, ofInt}
 use lib.Ieee.Scale.{finite}
 use Rattle.numbers.specs.Arithmetic.{_+₆₄_, if_then_else_, 0f, 1f}
 use Rattle.surfaces.specs.Types.{zeros, allFinite}
-use Rattle.surfaces.specs.Told.{Told, gives, refused, done, after, checked9, lineOf}
-use Rattle.surfaces.specs.Surface.{turnRule}
+use Rattle.surfaces.specs.Refusal.{Told, gives, done, after, checked9}
+use Rattle.surfaces.specs.Surface.{turnAnswer}
 use Rattle.surfaces.specs.declared.types.Landing.{Landing}
 use Rattle.surfaces.specs.declared.refusal.Line.{Line}
 use Rattle.surfaces.specs.declared.surface.Boundary.{Boundary}
@@ -16,35 +17,38 @@ use Rattle.surfaces.specs.declared.surface.Boundary.the-variants.{Mirror, Media
 use Rattle.recipe.specs.declared.record.Optic.{Optic}
 use Rattle.trace.specs.declared.leg.Beam.{Beam}
 use Rattle.trace.specs.declared.leg.Leg.{Leg}
-use Rattle.trace.specs.declared.leg.Ending.{Ending}
-use Rattle.trace.specs.declared.leg.Ending.the-variants as ending
 
 abbrev pub noLeg : Leg
 noLeg = record { t = 0f; point = zeros; normal = zeros; direction = zeros; front = false; path = 0f }
-
-abbrev pub toldEnding : Ending → Told Leg
-toldEnding (ending.Hit g) = gives g
-toldEnding (ending.Refused e) = refused noLeg (lineOf e)
 
 -- a mirror's index is not used
 unfoldable pub boundaryOf : Optic → Float → Boundary
 boundaryOf o index = if o .mirror then Mirror else Media index (o .index)
 
--- the path is the left-to-right sum of t
-unfoldable pub farther : Float → Float → Float
-farther path t = path +₆₄ t
+-- a surface's share of the path (SCOPE C11), by its number, the beam before it and t
+unfoldable pub share : ℕ → Beam → Float → Float
+share number b t = t
 
 -- what 9 covers
 unfoldable pub legFinite : Leg → Bool
-legFinite g = finite (g .t) && allFinite (g .point) && allFinite (g .normal) && allFinite (g .direction) && finite (g .path)
+legFinite g =
+    finite (g .t) && allFinite (g .point) && allFinite (g .normal) && allFinite (g .direction) && finite (g .path)
 
--- from where the passes came to: normal, refraction or reflection, then 9
-unfoldable pub legOf : Optic → Beam → Told Landing → Told Leg
-legOf o b x =
+-- from where the passes on the surface of a number came to: normal, refraction or reflection, path, then 9
+unfoldable pub legOf : ℕ → Optic → Beam → Told Landing → Told Leg
+legOf number o b x =
     checked9 noLeg legFinite
     (after noLeg x (λ l.
-    after noLeg (turnRule (o .surface) (b .ray .direction) (l .point) (boundaryOf o (b .index))) (λ v.
-    gives (record { t = l .t; point = l .point; normal = v .normal; direction = v .direction; front = v .front; path = farther (b .path) (l .t) }))))
+    after noLeg (turnAnswer (o .surface) (b .ray .direction) (l .point) (boundaryOf o (b .index))) (λ v.
+    gives
+    (record {
+      t = l .t;
+      point = l .point;
+      normal = v .normal;
+      direction = v .direction;
+      front = v .front;
+      path = b .path +₆₄ share number b (l .t);
+    }))))
 
 -- the next ray leaves the point in the new direction
 unfoldable pub beamAfter : Optic → Beam → Leg → Beam

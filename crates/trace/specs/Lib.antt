@@ -1,11 +1,11 @@
 pub mod Leg
 pub mod Unbroken
 pub mod State
-pub mod Trace
-pub mod Ready
+pub mod Run
+pub mod File
+pub mod Parts
 pub mod Demand1
 pub mod Demand3
-pub mod File
 pub mod Long
 pub mod Example
 pub mod Cases

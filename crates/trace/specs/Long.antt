@@ -1,4 +1,5 @@
--- What a program may leave unread: a recipe longer than 55,296 bytes, 512 records of 108 bytes, is refused by its first 55,297 bytes alone. Definitions only.
+-- What a program may leave unread: a recipe longer than 55,296 bytes, 512 records of 108 bytes, is refused by its
+-- first 55,297 bytes alone. Definitions only.
 use Prim.Native.Nat.{ℕ, _<_}
 use mathlib.Core.Path.{_≡_}
 use mathlib.Core.Logic.{_≢_}
@@ -6,7 +7,8 @@ use mathlib.Core.List.{List}
 use lib.ListN.{length, take}
 use lib.Ieee.{Float}
 use Rattle.surfaces.specs.declared.types.Ray.{Ray}
-use Rattle.trace.specs.Trace.{startOf, startFileOf}
+use Rattle.trace.specs.Run.{startOf}
+use Rattle.trace.specs.File.{startFileOf}
 
 pub record Long : Type 0 where
   pub recipe : (b : List ℕ) (ray : Ray) (index : Float) (z : List Float) → 55296 < length b

@@ -9,9 +9,9 @@ use lib.Ieee.{Float}
 use lib.Ieee.Scale.{finite}
 use Rattle.numbers.specs.Arithmetic.{_≤₆₄_, if_then_else_, 0f}
 use Rattle.surfaces.specs.Types.{rayFinite}
-use Rattle.surfaces.specs.Told.{Told, done}
+use Rattle.surfaces.specs.Refusal.{Told, done}
 use Rattle.surfaces.specs.Newton.{going}
-use Rattle.surfaces.specs.Surface.{passRule}
+use Rattle.surfaces.specs.Surface.{passAnswer}
 use Rattle.surfaces.specs.declared.types.Landing.{Landing}
 use Rattle.recipe.specs.declared.record.Optic.{Optic}
 use Rattle.recipe.specs.declared.scan.Checked.{Checked}
@@ -34,19 +34,23 @@ unfoldable pub pausedAt : State → ℕ → Float → ℕ → State
 pausedAt s passes t steps =
     record { number = s .number; place = s .place; passes = passes; t = t; beam = s .beam; steps = steps; outcome = 0 }
 
+-- a state before a surface, or at an end
+abbrev pub standing : ℕ → ℕ → Beam → ℕ → ℕ → State
+standing number place b steps outcome =
+    record { number = number; place = place; passes = 0; t = 0f; beam = b; steps = steps; outcome = outcome }
+
 -- at a surface's end: a hit moves on number, place and beam, a refusal keeps these
 unfoldable pub stateAfter : State → ℕ → ℕ → Optic → Told Leg → ℕ → State
 stateAfter s next count o x steps =
-    if done x then
-    record { number = s .number + 1; place = next; passes = 0; t = 0f; beam = beamAfter o (s .beam) (x .value); steps = steps; outcome = if eqb (s .number + 1) count then 1 else 0 }
-    else
-    record { number = s .number; place = s .place; passes = 0; t = 0f; beam = s .beam; steps = steps; outcome = x .line .number }
+    let outcome : ℕ = if eqb (s .number + 1) count then 1 else 0 in
+    if done x then standing (s .number + 1) next (beamAfter o (s .beam) (x .value)) steps outcome else
+    standing (s .number) (s .place) (s .beam) steps (x .line .number)
 
 -- what the end of a surface leaves, of which the last pass told x
 unfoldable pub surfaceLeft : Held → ℕ → ℕ → Optic → Told Landing → ℕ → ℕ → Held
 surfaceLeft h next count o x passes steps =
     let s = h .state in
-    let e = legOf o (s .beam) x in
+    let e = legOf (s .number) o (s .beam) x in
     held (stateAfter s next count o e steps) (sets (h .buffer) (width * s .number) (rowOf e passes))
 
 -- one step on an item
@@ -54,7 +58,7 @@ unfoldable pub stepOn : Item → ℕ → Held → Held
 stepOn i count h =
     let s = h .state in
     let o = i .optic in
-    let x = passRule (o .surface) (s .beam .ray) (s .passes) (s .t) in
+    let x = passAnswer (o .surface) (s .beam .ray) (s .passes) (s .t) in
     if going x then held (pausedAt s (s .passes + 1) (x .value .t) (s .steps + 1)) (h .buffer) else
     surfaceLeft h (i .next) count o x (s .passes + 1) (s .steps + 1)
 
@@ -70,7 +74,8 @@ advance l (suc n) h = advance l n (move l h)
 unfoldable pub outcomeKnown : ℕ → Bool
 outcomeKnown n = leb n 2 || leb 4 n && leb n 9
 
--- under outcome 1 the number is the count of records and the place the recipe's end; under another the place is that of the record with that number
+-- under outcome 1 the number is the count of records and the place the recipe's end; under another the place is that
+-- of the record with that number
 unfoldable pub placeFits : Checked → ℕ → State → Bool
 placeFits c end s =
     if eqb (s .outcome) 1 then eqb (s .number) (c .count) && eqb (s .place) end else

@@ -1,12 +1,13 @@
--- The unbroken trace: each surface in turn by its own rule to its end, with no state and no allowance. That it is not defined through the continuation is
--- seen in the imports: of this crate the beam and `Leg` alone, which know no state and no step. Definitions only.
+-- The unbroken trace: each surface in turn by its own rule to its end, with no state and no allowance. That it is not
+-- defined through the continuation is seen in the imports: of this crate the beam and `Leg` alone, which know no state
+-- and no step. Definitions only.
 use Prim.Native.Nat.{ℕ, suc, _+_, _-_}
 use mathlib.Core.List.{List, [], _∷_, _++_}
 use lib.ListN.{length, replicate}
 use lib.Dec.{leb}
 use lib.Ieee.{Float}
 use Rattle.numbers.specs.Arithmetic.{if_then_else_, 0f}
-use Rattle.surfaces.specs.Told.{done}
+use Rattle.surfaces.specs.Refusal.{done}
 use Rattle.surfaces.specs.Surface.{surfaceEnd}
 use Rattle.recipe.specs.declared.record.Optic.{Optic}
 use Rattle.trace.specs.declared.leg.Beam.{Beam}
@@ -24,15 +25,16 @@ pub record Trace : Type 0 where
   pub beam : Beam
   pub hits : ℕ
 
--- a hit goes on from where it is, a refusal ends the trace
-unfoldable pub unbroken : List Optic → Beam → Trace
-unbroken [] b = record { marks = []; outcome = 1; beam = b; hits = 0 }
-unbroken (o ∷ l) b =
+-- the surfaces from a number on: a hit goes on from where it is, a refusal ends the trace
+unfoldable pub unbroken : ℕ → List Optic → Beam → Trace
+unbroken number [] b = record { marks = []; outcome = 1; beam = b; hits = 0 }
+unbroken number (o ∷ l) b =
     let e = surfaceEnd (o .surface) (b .ray) in
-    let x = legOf o b (e .answer) in
+    let x = legOf number o b (e .answer) in
     let m : Mark = record { row = rowOf x (e .passes); steps = e .passes } in
-    let rest = unbroken l (beamAfter o b (x .value)) in
-    if done x then record { marks = m ∷ rest .marks; outcome = rest .outcome; beam = rest .beam; hits = suc (rest .hits) } else
+    let rest = unbroken (number + 1) l (beamAfter o b (x .value)) in
+    if done x then
+    record { marks = m ∷ rest .marks; outcome = rest .outcome; beam = rest .beam; hits = suc (rest .hits) } else
     record { marks = m ∷ []; outcome = x .line .number; beam = b; hits = 0 }
 
 -- the steps of the whole trace

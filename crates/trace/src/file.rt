@@ -1,24 +1,28 @@
 // A program's file: the record of the ray, then the recipe.
 ghost use mathlib.Core.Path.{_≡_};
-ghost use Rattle.trace.specs.Trace.{startFileOf};
+ghost use Rattle.trace.specs.File.{startFileOf};
 use crate::run::Answer;
-use crate::run::MOST;
+use crate::run::MOST_RECORDS;
 use crate::run::begin;
 use crate::run::blank_out;
 use crate::run::refused;
-use recipe::SOURCE;
+use recipe::MALFORMED;
+use recipe::SOURCE_BYTES;
 use recipe::check;
 use recipe::read_source;
+use surfaces::ACCEPTED;
 
 pub fn start_file(file: &[u8], buf: &mut [f64]) -> Answer
-    ensures { λ r. ⌜ record { answer = r; buffer = now (buf .exit) } ≡ startFileOf (now (file .entry)) (now (buf .entry)) ⌝ }
+    ensures { λ r.
+        ⌜ record { answer = r; buffer = now (buf .exit) }
+        ≡ startFileOf (now (file .entry)) (now (buf .entry)) ⌝ }
 {
     blank_out(buf);
     let s = read_source(file);
-    if s.number != 1 {
-        return refused(10, 0);
+    if s.number != ACCEPTED {
+        return refused(MALFORMED, 0);
     }
     let ray = s.ray;
-    let c = check(&file[SOURCE..], MOST, 0);
-    begin(c, SOURCE, ray, s.index, buf.len())
+    let c = check(&file[SOURCE_BYTES..], MOST_RECORDS, 0);
+    begin(c, SOURCE_BYTES, ray, s.index, buf.len())
 }

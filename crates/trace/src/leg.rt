@@ -1,8 +1,10 @@
 // A beam's way to a surface and on from it, and the record that it leaves.
 ghost use mathlib.Core.Path.{_≡_};
 ghost use Rattle.numbers.specs.Arithmetic.{if_then_else_, 0f, 1f};
-ghost use Rattle.surfaces.specs.Told.{gives, checked9, toldCrossing};
-ghost use Rattle.trace.specs.Leg.{noLeg, toldEnding, boundaryOf, farther, legFinite, legOf, beamAfter, hitRow, refusalRow, rowOf};
+ghost use Rattle.surfaces.specs.Refusal.{gives, checked9, toldCrossing};
+ghost use Rattle.trace.specs.Leg.{noLeg, boundaryOf, share, legFinite, legOf, beamAfter, hitRow, refusalRow};
+ghost use Rattle.trace.specs.Leg.{rowOf};
+ghost use Rattle.trace.specs.Parts.{toldEnding};
 use numbers::is_finite;
 use recipe::Optic;
 use surfaces::Boundary;
@@ -17,8 +19,32 @@ use surfaces::all_finite;
 use surfaces::line_of;
 use surfaces::turn;
 
-// How many numbers a result record has.
-pub const WIDTH: usize = 13;
+// The slots of a result record, of which point, normal and direction have three each, and how many there are.
+pub const RECORD_STATUS: usize = 0;
+
+pub const RECORD_T: usize = 1;
+
+pub const RECORD_POINT: usize = 2;
+
+pub const RECORD_NORMAL: usize = RECORD_POINT + 3;
+
+pub const RECORD_DIRECTION: usize = RECORD_NORMAL + 3;
+
+pub const RECORD_FRONT: usize = RECORD_DIRECTION + 3;
+
+pub const RECORD_STEPS: usize = RECORD_FRONT + 1;
+
+pub const RECORD_NUMBERS: usize = RECORD_STEPS + 1;
+
+// Where the record of a 7 has r and the semi-diameter.
+pub const RECORD_R: usize = 1;
+
+pub const RECORD_LIMIT: usize = 2;
+
+// The status of a record that is not finished, and of a hit; a refusal's is its number.
+pub const BLANK: f64 = 0.0;
+
+pub const HIT: f64 = 1.0;
 
 // What goes from surface to surface.
 pub struct Beam {
@@ -28,7 +54,7 @@ pub struct Beam {
 }
 
 // A hit: so far along the ray, where, and how the beam goes on.
-pub(crate) struct Leg {
+pub struct Leg {
     pub t: f64,
     pub point: Vec3,
     pub normal: Vec3,
@@ -38,7 +64,7 @@ pub(crate) struct Leg {
 }
 
 pub(crate) enum Ending {
-    Hit(Leg),
+    Given(Leg),
     Refused(Refusal),
 }
 
@@ -48,14 +74,18 @@ fn boundary(o: Optic, index: f64) -> Boundary
     if o.mirror {
         Boundary::Mirror
     } else {
-        Boundary::Media(index, o.index)
+        Boundary::Media {
+            before: index,
+            after: o.index,
+        }
     }
 }
 
-fn farther(path: f64, t: f64) -> f64
-    ensures { λ r. ⌜ r ≡ farther path t ⌝ }
+// A surface's share of the path (SCOPE C11), by its number and the beam before it.
+fn share(number: usize, b: Beam, t: f64) -> f64
+    ensures { λ r. ⌜ r ≡ share number b t ⌝ }
 {
-    path + t
+    t
 }
 
 fn leg_finite(g: Leg) -> bool
@@ -71,22 +101,22 @@ fn checked(g: Leg) -> Ending
     ensures { λ r. ⌜ toldEnding r ≡ checked9 noLeg legFinite (gives g) ⌝ }
 {
     if leg_finite(g) {
-        Ending::Hit(g)
+        Ending::Given(g)
     } else {
         Ending::Refused(Refusal::NotFinite)
     }
 }
 
-// The normal where the ray landed, refraction or reflection, then 9.
-fn landed(o: Optic, b: Beam, l: Landing) -> Ending
-    ensures { λ r. ⌜ toldEnding r ≡ legOf o b (gives l) ⌝ }
+// The normal where the ray landed, refraction or reflection, the path, then 9.
+fn landed(number: usize, o: Optic, b: Beam, l: Landing) -> Ending
+    ensures { λ r. ⌜ toldEnding r ≡ legOf number o b (gives l) ⌝ }
 {
     let s = o.surface;
     let ray = b.ray;
     let d = ray.direction;
     let p = l.point;
     match turn(s, d, p, boundary(o, b.index)) {
-        Turned::To(v) => {
+        Turned::Given(v) => {
             let normal = v.normal;
             let direction = v.direction;
             checked(Leg {
@@ -95,19 +125,19 @@ fn landed(o: Optic, b: Beam, l: Landing) -> Ending
                 normal,
                 direction,
                 front: v.front,
-                path: farther(b.path, l.t),
+                path: b.path + share(number, b, l.t),
             })
         }
         Turned::Refused(e) => Ending::Refused(e),
     }
 }
 
-// What a step that ends a surface makes of where its passes came to.
-pub(crate) fn onward(o: Optic, b: Beam, x: Crossing) -> Ending
-    ensures { λ r. ⌜ toldEnding r ≡ legOf o b (toldCrossing x) ⌝ }
+// What a step that ends the surface of a number makes of where its passes came to.
+pub(crate) fn leg_of(number: usize, o: Optic, b: Beam, x: Crossing) -> Ending
+    ensures { λ r. ⌜ toldEnding r ≡ legOf number o b (toldCrossing x) ⌝ }
 {
     match x {
-        Crossing::At(l) => landed(o, b, l),
+        Crossing::Given(l) => landed(number, o, b, l),
         Crossing::Refused(e) => Ending::Refused(e),
     }
 }
@@ -139,14 +169,14 @@ fn truth(b: bool) -> f64
     if b { 1.0 } else { 0.0 }
 }
 
-fn hit_row(g: Leg, steps: u16) -> [f64; WIDTH]
+fn hit_row(g: Leg, steps: u16) -> [f64; RECORD_NUMBERS]
     ensures { λ r. ⌜ r ≡ hitRow g steps ⌝ }
 {
     let p = g.point;
     let n = g.normal;
     let d = g.direction;
     [
-        1.0,
+        HIT,
         g.t,
         p.x,
         p.y,
@@ -162,7 +192,7 @@ fn hit_row(g: Leg, steps: u16) -> [f64; WIDTH]
     ]
 }
 
-fn refusal_row(l: Line, steps: u16) -> [f64; WIDTH]
+fn refusal_row(l: Line, steps: u16) -> [f64; RECORD_NUMBERS]
     ensures { λ r. ⌜ r ≡ refusalRow l steps ⌝ }
 {
     [
@@ -182,11 +212,11 @@ fn refusal_row(l: Line, steps: u16) -> [f64; WIDTH]
     ]
 }
 
-pub(crate) fn row(e: Ending, steps: u16) -> [f64; WIDTH]
+pub(crate) fn row(e: Ending, steps: u16) -> [f64; RECORD_NUMBERS]
     ensures { λ r. ⌜ r ≡ rowOf (toldEnding e) steps ⌝ }
 {
     match e {
-        Ending::Hit(g) => hit_row(g, steps),
+        Ending::Given(g) => hit_row(g, steps),
         Ending::Refused(e) => refusal_row(line_of(e), steps),
     }
 }

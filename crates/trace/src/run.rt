@@ -3,31 +3,47 @@ ghost use mathlib.Core.Path.{_≡_};
 ghost use Prim.Native.Nat.{_+_, _*_, _≤_, _<_, _^_};
 ghost use lib.ListN.{length};
 ghost use lib.Seq.{sets};
-ghost use Rattle.surfaces.specs.Told.{toldCrossing};
+ghost use Rattle.surfaces.specs.Refusal.{toldCrossing};
 ghost use Rattle.trace.specs.Leg.{width};
-ghost use Rattle.trace.specs.State.{held, surfaceLeft, advance};
-ghost use Rattle.trace.specs.Trace.{blank, standing, itemsOf, refusedAnswer, admission, begunOf, startOf, continueOf, wholeOf};
-ghost use Rattle.trace.specs.Ready.{Ready};
+ghost use Rattle.trace.specs.State.{held, standing, surfaceLeft, advance};
+ghost use Rattle.trace.specs.Run.{blank, itemsOf, refusedAnswer, admission, begunOf, startOf, continueOf};
+ghost use Rattle.trace.specs.Run.{wholeOf};
+ghost use Rattle.trace.specs.Parts.{Ready};
+use crate::leg::BLANK;
 use crate::leg::Beam;
-use crate::leg::WIDTH;
-use crate::leg::onward;
+use crate::leg::RECORD_NUMBERS;
+use crate::leg::leg_of;
 use crate::leg::row;
+use crate::state::RUNNING;
 use crate::state::State;
 use crate::state::outcome_at;
 use numbers::is_finite;
 use recipe::Checked;
-use recipe::Record;
+use recipe::LONGEST_RECORD;
+use recipe::ReadRecord;
 use recipe::check;
 use recipe::read_record;
+use surfaces::ACCEPTED;
+use surfaces::BAD_PARAMETER;
 use surfaces::Crossing;
 use surfaces::Passed;
 use surfaces::Ray;
-use surfaces::Vec3;
+use surfaces::SINGULAR;
+use surfaces::no_ray;
 use surfaces::pass;
 use surfaces::ray_finite;
 
-// How many records a recipe may have.
-pub const MOST: usize = 512;
+// The numbers of the table (SCOPE T1) that a call adds.
+pub const BUFFER_TOO_SHORT: u8 = 11;
+
+pub const STATE_DOES_NOT_FIT: u8 = 12;
+
+// How many records a recipe may have, how many bytes they take at most, and how many numbers their results.
+pub const MOST_RECORDS: usize = 512;
+
+pub const MOST_RECIPE_BYTES: usize = MOST_RECORDS * LONGEST_RECORD;
+
+pub const MOST_ROOM: usize = MOST_RECORDS * RECORD_NUMBERS;
 
 // 1 or the refusal, the refused record's place, and the state.
 pub struct Answer {
@@ -42,19 +58,19 @@ pub(crate) fn blank_out(buf: &mut [f64])
 {
     let mut i = 0;
     while i < buf.len() {
-        buf[i] = 0.0;
+        buf[i] = BLANK;
         i += 1;
     }
 }
 
 // The record of the surface of a number.
-fn write_row(buf: &mut [f64], number: usize, values: [f64; WIDTH])
+fn write_row(buf: &mut [f64], number: usize, values: [f64; RECORD_NUMBERS])
     requires { ⌜ width * number + width ≤ length (now buf) ⌝ }
     ensures { λ _. ⌜ now (buf .exit) ≡ sets (now (buf .entry)) (width * number) values ⌝ }
 {
-    let at = WIDTH * number;
+    let at = RECORD_NUMBERS * number;
     let mut i = 0;
-    while i < WIDTH {
+    while i < RECORD_NUMBERS {
         buf[at + i] = values[i];
         i += 1;
     }
@@ -64,18 +80,20 @@ fn write_row(buf: &mut [f64], number: usize, values: [f64; WIDTH])
 fn leave(
     s: State,
     buf: &mut [f64],
-    read: Record,
+    read: ReadRecord,
     count: usize,
     x: Crossing,
     passes: u16,
     steps: usize,
 ) -> State
     requires { ⌜ (width * s .number + width ≤ length (now buf)) × (s .number + 1 < 2 ^ 64) ⌝ }
-    ensures { λ r. ⌜ held r (now (buf .exit)) ≡ surfaceLeft (held s (now (buf .entry))) (read .next) count (read .optic) (toldCrossing x) passes steps ⌝ }
+    ensures { λ r.
+        ⌜ held r (now (buf .exit))
+        ≡ surfaceLeft (held s (now (buf .entry))) (read .next) count (read .optic) (toldCrossing x) passes steps ⌝ }
 {
     let o = read.optic;
     let beam = s.beam;
-    let e = onward(o, beam, x);
+    let e = leg_of(s.number, o, beam, x);
     write_row(buf, s.number, row(e, passes));
     s.after(read.next, count, o, e, steps)
 }
@@ -83,12 +101,14 @@ fn leave(
 // At most `allowed` steps, and none once the trace has ended.
 fn walk(state: State, recipe: &[u8], buf: &mut [f64], count: usize, allowed: u16) -> State
     requires { ⌜ (Ready (now recipe) (length (now buf)) count state) × (state .steps < 2 ^ 62) ⌝ }
-    ensures { λ r. ⌜ held r (now (buf .exit)) ≡ advance (itemsOf (now (recipe .entry))) allowed (held state (now (buf .entry))) ⌝ }
+    ensures { λ r.
+        ⌜ held r (now (buf .exit))
+        ≡ advance (itemsOf (now (recipe .entry))) allowed (held state (now (buf .entry))) ⌝ }
 {
     let mut s = state;
     let mut left = allowed;
     'surfaces: while left > 0 {
-        if s.outcome != 0 {
+        if s.outcome != RUNNING {
             break 'surfaces;
         }
         let read = read_record(recipe, s.place);
@@ -111,8 +131,8 @@ fn walk(state: State, recipe: &[u8], buf: &mut [f64], count: usize, allowed: u16
                         break 'surfaces;
                     }
                 }
-                Passed::Hit(l) => {
-                    break Crossing::At(l);
+                Passed::Given(l) => {
+                    break Crossing::Given(l);
                 }
                 Passed::Refused(e) => {
                     break Crossing::Refused(e);
@@ -127,17 +147,8 @@ fn walk(state: State, recipe: &[u8], buf: &mut [f64], count: usize, allowed: u16
 pub(crate) fn refused(number: u8, place: usize) -> Answer
     ensures { λ r. ⌜ r ≡ refusedAnswer number place ⌝ }
 {
-    let zeros = Vec3 {
-        x: 0.0,
-        y: 0.0,
-        z: 0.0,
-    };
-    let ray = Ray {
-        origin: zeros,
-        direction: zeros,
-    };
     let beam = Beam {
-        ray,
+        ray: no_ray(),
         index: 0.0,
         path: 0.0,
     };
@@ -168,12 +179,16 @@ fn admission(ray: Ray, index: f64, room: usize, count: usize) -> u8
     ensures { λ n. ⌜ n ≡ admission ray index room count ⌝ }
 {
     if !(ray_finite(ray) & is_finite(index)) {
-        return 2;
+        return BAD_PARAMETER;
     }
     if index <= 0.0 {
-        return 4;
+        return SINGULAR;
     }
-    if room / WIDTH < count { 11 } else { 1 }
+    if room / RECORD_NUMBERS < count {
+        BUFFER_TOO_SHORT
+    } else {
+        ACCEPTED
+    }
 }
 
 // What start answers, by what a check says of the recipe, whose places count from `base`, and how much room there is.
@@ -181,11 +196,11 @@ pub(crate) fn begin(c: Checked, base: usize, ray: Ray, index: f64, room: usize) 
     requires { ⌜ base + c .place < 2 ^ 64 ⌝ }
     ensures { λ r. ⌜ r ≡ begunOf c base ray index room ⌝ }
 {
-    if c.number != 1 {
+    if c.number != ACCEPTED {
         return refused(c.number, base + c.place);
     }
     let n = admission(ray, index, room, c.count);
-    if n != 1 {
+    if n != ACCEPTED {
         return refused(n, 0);
     }
     let beam = Beam {
@@ -194,32 +209,36 @@ pub(crate) fn begin(c: Checked, base: usize, ray: Ray, index: f64, room: usize) 
         path: 0.0,
     };
     Answer {
-        number: 1,
+        number: ACCEPTED,
         place: 0,
         state: before_first(beam, outcome_at(0, c.count)),
     }
 }
 
 pub fn start(recipe: &[u8], ray: Ray, index: f64, buf: &mut [f64]) -> Answer
-    ensures { λ r. ⌜ record { answer = r; buffer = now (buf .exit) } ≡ startOf (now (recipe .entry)) ray index (now (buf .entry)) ⌝ }
+    ensures { λ r.
+        ⌜ record { answer = r; buffer = now (buf .exit) }
+        ≡ startOf (now (recipe .entry)) ray index (now (buf .entry)) ⌝ }
 {
     blank_out(buf);
-    begin(check(recipe, MOST, 0), 0, ray, index, buf.len())
+    begin(check(recipe, MOST_RECORDS, 0), 0, ray, index, buf.len())
 }
 
 // Start, then all steps at once.
 pub fn whole(recipe: &[u8], ray: Ray, index: f64, buf: &mut [f64]) -> Answer
-    ensures { λ r. ⌜ record { answer = r; buffer = now (buf .exit) } ≡ wholeOf (now (recipe .entry)) ray index (now (buf .entry)) ⌝ }
+    ensures { λ r.
+        ⌜ record { answer = r; buffer = now (buf .exit) }
+        ≡ wholeOf (now (recipe .entry)) ray index (now (buf .entry)) ⌝ }
 {
     blank_out(buf);
-    let c = check(recipe, MOST, 0);
+    let c = check(recipe, MOST_RECORDS, 0);
     let a = begin(c, 0, ray, index, buf.len());
-    if a.number != 1 {
+    if a.number != ACCEPTED {
         return a;
     }
     let s = a.state;
     Answer {
-        number: 1,
+        number: ACCEPTED,
         place: 0,
         state: walk(s, recipe, buf, c.count, u16::MAX),
     }
@@ -236,20 +255,22 @@ impl State {
         }
     }
 
-    // Document 01's continue, which is a word of the language.
+    // SCOPE C4's continue, which is a word of the language.
     pub fn resume(self, recipe: &[u8], buf: &mut [f64], allowed: u16) -> Answer
-        ensures { λ r. ⌜ record { answer = r; buffer = now (buf .exit) } ≡ continueOf (now (recipe .entry)) self (now (buf .entry)) allowed ⌝ }
+        ensures { λ r.
+            ⌜ record { answer = r; buffer = now (buf .exit) }
+            ≡ continueOf (now (recipe .entry)) self (now (buf .entry)) allowed ⌝ }
     {
-        let c = check(recipe, MOST, self.number);
-        if c.number != 1 {
+        let c = check(recipe, MOST_RECORDS, self.number);
+        if c.number != ACCEPTED {
             return self.kept(c.number, c.place);
         }
-        if buf.len() / WIDTH < c.count {
-            return self.kept(11, 0);
+        if buf.len() / RECORD_NUMBERS < c.count {
+            return self.kept(BUFFER_TOO_SHORT, 0);
         }
         if !self.fits(c, recipe.len()) {
-            return self.kept(12, 0);
+            return self.kept(STATE_DOES_NOT_FIT, 0);
         }
-        walk(self, recipe, buf, c.count, allowed).kept(1, 0)
+        walk(self, recipe, buf, c.count, allowed).kept(ACCEPTED, 0)
     }
 }

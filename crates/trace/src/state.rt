@@ -3,16 +3,24 @@ ghost use mathlib.Core.Path.{_≡_};
 ghost use Prim.Native.Nat.{_+_, _<_, _^_};
 ghost use lib.Dec.{eqb};
 ghost use Rattle.numbers.specs.Arithmetic.{if_then_else_};
-ghost use Rattle.trace.specs.Leg.{toldEnding};
 ghost use Rattle.trace.specs.State.{pausedAt, stateAfter, outcomeKnown, placeFits, passesFit, beamGood, fitsOf};
+ghost use Rattle.trace.specs.Parts.{toldEnding};
 use crate::leg::Beam;
 use crate::leg::Ending;
 use crate::leg::beam_after;
 use numbers::is_finite;
 use recipe::Checked;
 use recipe::Optic;
+use surfaces::BAD_PARAMETER;
+use surfaces::NOT_FINITE;
+use surfaces::SINGULAR;
 use surfaces::line_of;
 use surfaces::ray_finite;
+
+// The outcome of a trace that has not ended, and of one that hit all surfaces; any other is what ended it.
+pub const RUNNING: u8 = 0;
+
+pub const DONE: u8 = 1;
 
 // Surface number, place of its record, passes made on it and t so far, the beam before it, all steps and the outcome.
 pub struct State {
@@ -28,13 +36,13 @@ pub struct State {
 pub(crate) fn outcome_at(number: usize, count: usize) -> u8
     ensures { λ r. ⌜ r ≡ (if eqb number count then 1 else 0) ⌝ }
 {
-    if number == count { 1 } else { 0 }
+    if number == count { DONE } else { RUNNING }
 }
 
 fn outcome_known(n: u8) -> bool
     ensures { λ r. ⌜ r ≡ outcomeKnown n ⌝ }
 {
-    (n <= 2) | ((4 <= n) & (n <= 9))
+    (n <= BAD_PARAMETER) | ((SINGULAR <= n) & (n <= NOT_FINITE))
 }
 
 fn beam_good(b: Beam) -> bool
@@ -57,7 +65,7 @@ impl State {
             t,
             beam,
             steps,
-            outcome: 0,
+            outcome: RUNNING,
         }
     }
 
@@ -68,7 +76,7 @@ impl State {
     {
         let beam = self.beam;
         match e {
-            Ending::Hit(g) => {
+            Ending::Given(g) => {
                 let number = self.number + 1;
                 State {
                     number,
@@ -98,7 +106,7 @@ impl State {
     fn place_fits(self, c: Checked, end: usize) -> bool
         ensures { λ r. ⌜ r ≡ placeFits c end self ⌝ }
     {
-        if self.outcome == 1 {
+        if self.outcome == DONE {
             (self.number == c.count) & (self.place == end)
         } else {
             (self.number < c.count) & (self.place == c.found)
@@ -108,7 +116,7 @@ impl State {
     fn passes_fit(self, c: Checked) -> bool
         ensures { λ r. ⌜ r ≡ passesFit c self ⌝ }
     {
-        if self.outcome == 0 {
+        if self.outcome == RUNNING {
             self.passes < c.limit
         } else {
             self.passes == 0

@@ -8,23 +8,27 @@ use lib.Ieee.{Float}
 use lib.ListN.{length, take, drop, set, length-append}
 use lib.Seq.{sets, length-sets, sets-eq, set-set, append-snoc}
 use borrow.Author.Tests.{ne-eqb, lt-ltb, le-ltb}
-use Rattle.lines.specs.Text.{put, putFloats, ended}
+use Rattle.lines.specs.Output.{put, putFloats, ended}
 use Rattle.tracelist.specs.Listing.{ascii, line, bits, filled}
 use Rattle.tracelist.specs.Parts.{written}
 
 -- what is stored behind a text, and the two at once
 sets-append : (out : List ℕ) (at : ℕ) (a b : List ℕ) → sets (sets out at a) (at + length a) b ≡ sets out at (a ++ b)
 sets-append out at [] b = rw (add-zero at)
-sets-append out at (x ∷ a) b = let e : at + suc (length a) ≡ suc at + length a = omega arith in rw e (sets-append (set out at x) (suc at) a b)
+sets-append out at (x ∷ a) b =
+    let e : at + suc (length a) ≡ suc at + length a = omega arith in
+    rw e (sets-append (set out at x) (suc at) a b)
 
-written-more : (out : List ℕ) (at : ℕ) (a b : List ℕ) → written (sets out at a) (at + length a) b ≡ written out at (a ++ b)
+written-more : (out : List ℕ) (at : ℕ) (a b : List ℕ)
+    → written (sets out at a) (at + length a) b ≡ written out at (a ++ b)
 unfolding written
 written-more out at a b =
     let e : at + length a + length b ≡ at + length (a ++ b) = let q = length-append a b in omega arith in
     rw (e, sets-append out at a b)
 
 -- a text behind another
-pub both-written : (out : List ℕ) (at : ℕ) (a b : List ℕ) (p q : ℕ × List ℕ) → p ≡ written out at a → q ≡ written (p .1) (p .0) b → q ≡ written out at (a ++ b)
+pub both-written : (out : List ℕ) (at : ℕ) (a b : List ℕ) (p q : ℕ × List ℕ) → p ≡ written out at a
+    → q ≡ written (p .1) (p .0) b → q ≡ written out at (a ++ b)
 unfolding written
 both-written out at a b p q e f = f ∙ ap (λ (x : ℕ × List ℕ). written (x .1) (x .0) b) e ∙ written-more out at a b
 
@@ -41,7 +45,8 @@ putAll p [] = p
 putAll p (w ∷ words) = putAll (put (p .1) (p .0) w) words
 
 -- one word more in front, and none
-pub one-put : (p q r : ℕ × List ℕ) (w : List ℕ) (words : List (List ℕ)) → q ≡ put (p .1) (p .0) w → r ≡ putAll q words → r ≡ putAll p (w ∷ words)
+pub one-put : (p q r : ℕ × List ℕ) (w : List ℕ) (words : List (List ℕ)) → q ≡ put (p .1) (p .0) w
+    → r ≡ putAll q words → r ≡ putAll p (w ∷ words)
 unfolding putAll
 one-put p q r w words e f = f ∙ ap (λ (x : ℕ × List ℕ). putAll x words) e
 
@@ -70,12 +75,14 @@ pub last-word : (w : List ℕ) → length (line w []) ≡ length w + 1
 unfolding line ascii
 last-word w = length-append w (10 ∷ [])
 
-pub next-word : (w v : List ℕ) (words : List (List ℕ)) → length (line w (v ∷ words)) ≡ length w + 1 + length (line v words)
+pub next-word : (w v : List ℕ) (words : List (List ℕ))
+    → length (line w (v ∷ words)) ≡ length w + 1 + length (line v words)
 unfolding line ascii
 next-word w v words = rw (length-append (w ++ (32 ∷ [])) (line v words), length-append w (32 ∷ []))
 
 -- a word that fits, with its space
-put-fits : (out : List ℕ) (at : ℕ) (w : List ℕ) → at + length w < length out → put out at w ≡ written out at (w ++ (32 ∷ []))
+put-fits : (out : List ℕ) (at : ℕ) (w : List ℕ) → at + length w < length out
+    → put out at w ≡ written out at (w ++ (32 ∷ []))
 unfolding written put
 put-fits out at w h =
     let e : at + length (w ++ (32 ∷ [])) ≡ at + length w + 1 = let q = length-append w (32 ∷ []) in omega arith in
@@ -95,21 +102,25 @@ all-put out at w [] h = put-fits out at w (omega (arith, last-word w))
 all-put out at w (v ∷ words) h =
     let u : List ℕ = w ++ (32 ∷ []) in
     let q = next-word w v words in
-    let r : at + length u + length (line v words) ≤ length (sets out at u) = rw (length-sets out at u, length-append w (32 ∷ [])) (omega arith) in
+    let r : at + length u + length (line v words) ≤ length (sets out at u) =
+    rw (length-sets out at u, length-append w (32 ∷ [])) (omega arith) in
+    let behind : List ℕ = joined v words ++ (32 ∷ []) in
     ap (λ (p : ℕ × List ℕ). putAll p (v ∷ words)) (put-fits out at w (omega arith))
     ∙ all-put (sets out at u) (at + length u) v words r
-    ∙ written-more out at u (joined v words ++ (32 ∷ []))
-    ∙ ap (written out at) (append-snoc w 32 (joined v words ++ (32 ∷ [])) ∙ sym (append-assoc w (32 ∷ joined v words) (32 ∷ [])))
+    ∙ written-more out at u behind
+    ∙ ap (written out at) (append-snoc w 32 behind ∙ sym (append-assoc w (32 ∷ joined v words) (32 ∷ [])))
 
 -- the line feed in the place of the last space
-fed : (out : List ℕ) (at : ℕ) (a : List ℕ) → at + length a < length out
-    → (at + length (a ++ (32 ∷ [])), ended (sets out at (a ++ (32 ∷ []))) (at + length (a ++ (32 ∷ [])))) ≡ written out at (a ++ (10 ∷ []))
+fed : (out : List ℕ) (at : ℕ) (a : List ℕ) → at + length a < length out →
+    let spaced = a ++ (32 ∷ []) in
+    (at + length spaced, ended (sets out at spaced) (at + length spaced)) ≡ written out at (a ++ (10 ∷ []))
 unfolding written ended
 fed out at a h =
     let e : at + length (a ++ (32 ∷ [])) ≡ suc (at + length a) = let q = length-append a (32 ∷ []) in omega arith in
     let f : at + length (a ++ (10 ∷ [])) ≡ suc (at + length a) = let q = length-append a (10 ∷ []) in omega arith in
     let g : suc (at + length a) - 1 ≡ at + length a = omega arith in
-    let k : suc (at + length a) ≤ length (sets out at (a ++ (32 ∷ []))) = rw (length-sets out at (a ++ (32 ∷ []))) (omega arith) in
+    let k : suc (at + length a) ≤ length (sets out at (a ++ (32 ∷ []))) =
+    rw (length-sets out at (a ++ (32 ∷ []))) (omega arith) in
     rw (
       e,
       f,
@@ -122,8 +133,9 @@ fed out at a h =
     )
 
 -- words that are put one after the other and ended are their line
-pub line-put : (out : List ℕ) (at : ℕ) (w : List ℕ) (words : List (List ℕ)) (p : ℕ × List ℕ) → at + length (line w words) ≤ length out
-    → p ≡ putAll (at, out) (w ∷ words) → (p .0, ended (p .1) (p .0)) ≡ written out at (line w words)
+pub line-put : (out : List ℕ) (at : ℕ) (w : List ℕ) (words : List (List ℕ)) (p : ℕ × List ℕ)
+    → at + length (line w words) ≤ length out → p ≡ putAll (at, out) (w ∷ words)
+    → (p .0, ended (p .1) (p .0)) ≡ written out at (line w words)
 unfolding written
 line-put out at w words p h e =
     let n = ap length (line-is w words) ∙ length-append (joined w words) (10 ∷ []) in

@@ -6,7 +6,7 @@ use mathlib.Core.List.{List}
 use native.Mathlib.Omega.{arith}
 use lib.ListN.{length, take}
 use Rattle.trace.specs.Unbroken.{Trace}
-use Rattle.trace.specs.Trace.{Reply}
+use Rattle.trace.specs.Run.{Reply}
 use Rattle.trace.proofs.Long as trace
 use Rattle.tracelist.specs.Listing.{countIn, refusedLine, room, listing}
 use Rattle.tracelist.specs.Shown.{markAt, Shown}
@@ -24,7 +24,8 @@ refusal-status over h = absurd (h refl)
 refusal-status (off m n) h = m .status-is
 refusal-status (hit m s) h = refusal-status s h
 
-steps-shown : {u : Trace} → Shaped u → (k : ℕ) → k < length (u .marks) → countIn (markAt u k .row) 12 ≡ markAt u k .steps
+steps-shown : {u : Trace} → Shaped u → (k : ℕ) → k < length (u .marks)
+    → countIn (markAt u k .row) 12 ≡ markAt u k .steps
 steps-shown over k h = absurd (omega arith)
 steps-shown (off m n) zero h = m .steps-are
 steps-shown (off m n) (suc k) h = absurd (omega arith)
@@ -41,8 +42,8 @@ long-alike f h =
 pub shown : Shown
 shown =
     record {
-      hit = λ l b. hit-status (shaped l b);
-      refusal = λ l b. refusal-status (shaped l b);
-      steps = λ l b. steps-shown (shaped l b);
+      hit = λ first l b. hit-status (shaped first l b);
+      refusal = λ first l b. refusal-status (shaped first l b);
+      steps = λ first l b. steps-shown (shaped first l b);
       long = long-alike;
     }

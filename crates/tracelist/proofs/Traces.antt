@@ -12,9 +12,11 @@ use Rattle.recipe.specs.Scan.{Item, placeOf}
 use Rattle.recipe.specs.Source.{sourceOf}
 use Rattle.recipe.proofs.Scans.{scan-sound, scan-few}
 use Rattle.trace.specs.Unbroken.{Trace, total, rows, padded}
-use Rattle.trace.specs.Trace.{mostRecords, Reply, reply, standing, recipeOf, itemsOf, opticsOf, blank, beamOf, startAt, startOf, startFileOf, wholeOf}
+use Rattle.trace.specs.State.{standing}
+use Rattle.trace.specs.Run.{mostRecords, Reply, reply, recipeOf, itemsOf, opticsOf, blank, beamOf, startAt}
+use Rattle.trace.specs.Run.{startOf, wholeOf}
 use Rattle.trace.specs.Demand3.{traceOf}
-use Rattle.trace.specs.File.{behindRay}
+use Rattle.trace.specs.File.{startFileOf, behindRay}
 use Rattle.trace.proofs.Starts.{Admitted, admitted-by, admitted-is}
 use Rattle.trace.proofs.Files.{file}
 use Rattle.tracelist.specs.Listing.{refusedLine, traceLines, room, listing}
@@ -31,7 +33,8 @@ start-alike f y z e = rw e
 
 module _ (f : List ℕ) where
   -- a refused start
-  pub refused-listing : startFileOf f room .answer .number ≢ 1 → listing f ≡ refusedLine (startFileOf f room .answer .number) (startFileOf f room .answer .place)
+  pub refused-listing : startFileOf f room .answer .number ≢ 1
+      → listing f ≡ refusedLine (startFileOf f room .answer .number) (startFileOf f room .answer .place)
   unfolding listing
   refused-listing h = rw (ne-eqb _ _ h)
 
@@ -52,24 +55,30 @@ module _ (f : List ℕ) where
     admission : Admitted (recipeOf b) ray index (blank z)
     unfolding startOf startAt
     admission =
-        let started = file .accepted f z (ap number (start-alike f z room size) ∙ ok) in
-        admitted-by 0 ray index (blank z) (recipeOf b) (scan-sound b mostRecords 0) _ (sym (ap number (started .1)) ∙ ap number (start-alike f z room size) ∙ ok)
+        let number-is = ap number (start-alike f z room size) ∙ ok in
+        let started = file .accepted f z number-is in
+        admitted-by 0 ray index (blank z) (recipeOf b) (scan-sound b mostRecords 0) _
+        (sym (ap number (started .1)) ∙ number-is)
 
     -- what the whole trace behind the ray leaves
-    left : wholeOf b ray index z ≡ reply 1 0 (standing (u .hits) (placeOf (itemsOf b) (length b) (u .hits)) (u .beam) (total (u .marks)) (u .outcome)) (padded (length (blank z)) (rows (u .marks)))
+    left :
+        let place = placeOf (itemsOf b) (length b) (u .hits) in
+        let end = standing (u .hits) place (u .beam) (total (u .marks)) (u .outcome) in
+        wholeOf b ray index z ≡ reply 1 0 end (padded (length (blank z)) (rows (u .marks)))
     unfolding wholeOf traceOf
     left = admitted-is 0 ray index (blank z) (recipeOf b) admission _
 
     shape : Shaped u
     unfolding traceOf
-    shape = shaped (opticsOf (itemsOf b)) (beamOf ray index)
+    shape = shaped 0 (opticsOf (itemsOf b)) (beamOf ray index)
 
     module _ (r : Reply) (whole : r ≡ wholeOf b ray index z) where
       pub few-records : recordsOf (r .answer .state .outcome) (r .answer .state .number) ≤ mostRecords
       unfolding traceOf
       few-records =
           let m = length-map (itemsOf b) (λ (i : Item). i .optic) in
-          rw (whole ∙ left, ← marks-counted shape) (omega (arith, marks-few (opticsOf (itemsOf b)) (beamOf ray index), scan-few b mostRecords 0))
+          let few = marks-few 0 (opticsOf (itemsOf b)) (beamOf ray index) in
+          rw (whole ∙ left, ← marks-counted shape) (omega (arith, few, scan-few b mostRecords 0))
 
       -- its lines are the listing
       pub traced-listing : stateLines (r .buffer) (r .answer .state) ≡ listing f

@@ -9,11 +9,11 @@ use lib.Ieee.{Float, binary64, toBits}
 use lib.ListN.{length, take, drop, length-append, length-take, length-drop}
 use lib.Seq.{length-take-le}
 use Rattle.numbers.specs.Arithmetic.{if_then_else_}
-use Rattle.lines.specs.Text.{glyph, hexText, decimalText}
+use Rattle.lines.specs.Output.{glyph, hexText, decimalText}
 use Rattle.trace.specs.declared.state.State.{State}
 use Rattle.trace.specs.Leg.{width}
-use Rattle.trace.specs.Trace.{mostRecords}
-use Rattle.tracelist.specs.Listing.{ascii, line, digits, bits, countIn, recordLine, endLine, refusedLine}
+use Rattle.trace.specs.Run.{mostRecords}
+use Rattle.tracelist.specs.Listing.{ascii, line, digits, bits, recordLine, endLine, refusedLine}
 use Rattle.tracelist.specs.Parts.{recordBytes, lastBytes, rowLines, recordsOf, stateLines}
 use Rattle.tracelist.proofs.Buffers.{last-word, next-word}
 
@@ -21,14 +21,17 @@ use Rattle.tracelist.proofs.Buffers.{last-word, next-word}
 hex-width : (k n : ℕ) → length (hexText k n) ≡ k
 unfolding hexText
 hex-width zero n = refl
-hex-width (suc k) n = let e = length-append (hexText k (n / 16)) (glyph (n % 16) ∷ []) in omega (arith, hex-width k (n / 16))
+hex-width (suc k) n =
+    let e = length-append (hexText k (n / 16)) (glyph (n % 16) ∷ []) in
+    omega (arith, hex-width k (n / 16))
 
 digits-few : (k n : ℕ) → length (decimalText k n) ≤ k
 unfolding decimalText
 digits-few zero n = zero-le
 digits-few (suc k) n = by (ltb n 10) (decimalText k (n / 10)) (digits-few k (n / 10))
   where
-    by : (t : Bool) (front : List ℕ) → length front ≤ k → length (if t then (48 + n) ∷ [] else front ++ ((48 + n % 10) ∷ [])) ≤ suc k
+    by : (t : Bool) (front : List ℕ) → length front ≤ k
+        → length (if t then (48 + n) ∷ [] else front ++ ((48 + n % 10) ∷ [])) ≤ suc k
     by true front h = omega arith
     by false front h = let e = length-append front ((48 + n % 10) ∷ []) in omega arith
 
@@ -46,7 +49,8 @@ bits-size [] = refl
 bits-size (x ∷ values) = omega (arith, hex-width 16 (toBits binary64 x), bits-size values)
 
 -- the lines by their words
-three-counts : (a b c : ℕ) (slots : List Float) → length slots ≤ 11 → length (line (digits a) (digits b ∷ digits c ∷ map bits slots)) ≤ recordBytes
+three-counts : (a b c : ℕ) (slots : List Float) → length slots ≤ 11
+    → length (line (digits a) (digits b ∷ digits c ∷ map bits slots)) ≤ recordBytes
 three-counts a b c slots few =
     omega (
       arith,
@@ -75,9 +79,17 @@ rows-short number (suc n) z h =
       rows-short (suc number) n (drop width z) rest,
     )
 
-two-counts : (word : List ℕ) (a b : ℕ) (values : List Float) → length word + 1 + 2 * 21 + 17 * length values ≤ lastBytes → length (line word (digits a ∷ digits b ∷ map bits values)) ≤ lastBytes
+two-counts : (word : List ℕ) (a b : ℕ) (values : List Float)
+    → length word + 1 + 2 * 21 + 17 * length values ≤ lastBytes
+    → length (line word (digits a ∷ digits b ∷ map bits values)) ≤ lastBytes
 two-counts word a b values h =
-    omega (arith, line-size word (digits a ∷ digits b ∷ map bits values), digits-few 20 a, digits-few 20 b, bits-size values)
+    omega (
+      arith,
+      line-size word (digits a ∷ digits b ∷ map bits values),
+      digits-few 20 a,
+      digits-few 20 b,
+      bits-size values,
+    )
 
 pub end-short : (outcome steps : ℕ) (path : Float) → length (endLine outcome steps path) ≤ lastBytes
 unfolding endLine ascii
@@ -88,8 +100,8 @@ unfolding refusedLine ascii
 refused-short number place = two-counts (ascii "refused") _ _ [] (omega arith)
 
 -- and a whole listing
-pub state-short : (z : List Float) (s : State) → recordsOf (s .outcome) (s .number) ≤ mostRecords → width * mostRecords ≤ length z
-    → length (stateLines z s) ≤ recordBytes * mostRecords + lastBytes
+pub state-short : (z : List Float) (s : State) → recordsOf (s .outcome) (s .number) ≤ mostRecords
+    → width * mostRecords ≤ length z → length (stateLines z s) ≤ recordBytes * mostRecords + lastBytes
 unfolding stateLines
 state-short z s few wide =
     let n = recordsOf (s .outcome) (s .number) in

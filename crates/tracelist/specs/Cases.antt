@@ -1,31 +1,37 @@
--- Files, and what is printed of them, document 01's example first: one list, which one theorem covers. Assumes nothing.
+-- Files, and what is printed of them, the example of SCOPE L4 first: one list, one theorem. Assumes nothing.
 use Prim.Native.Nat.{ℕ, _+_, _*_}
-use Prim.Native.String.{String}
+use Prim.Native.String.{String, [] as no-text, _∷_ as _then_}
 use mathlib.Core.Path.{_≡_, refl}
+use mathlib.Core.Bool.{true}
 use mathlib.Core.List.{List, [], _∷_, _++_}
 use lib.Ieee.{ofBits, toBits, ofInt, toUnsigned, neg, round, add, sub, mul, div, lt, le, eq, isNan}
 use lib.ListN.{length}
 use Rattle.numbers.specs.Arithmetic.{decimal}
 use Rattle.numbers.specs.Basic.{magnitude, negative, larger, clamped, infinite}
-use Rattle.numbers.specs.Sqrt.{root}
+use Rattle.numbers.specs.Root.{root}
 use Rattle.surfaces.specs.Types.{dotOf, overOf, distance, pointAt, allFinite, rayFinite, everyFinite}
-use Rattle.surfaces.specs.Told.{sagOf}
 use Rattle.surfaces.specs.Snell.{turnedIf, negatedIf, bent, refracted}
 use Rattle.surfaces.specs.Conic.{landedWithin, planeCrossing, conicCrossing, conicNormal, gradientNormal, normalAt}
 use Rattle.surfaces.specs.Newton.{arrivedAt, movedBy, passAt, vertexPlane, passesFrom, newtonEnd}
-use Rattle.surfaces.specs.Asphere.{powerSumFrom, slopeSumFrom, edgeRoot, baseRoot, baseSag, baseSlope, evenDepth, evenSlopeFrom, evenSlope, radialSlopes, evenSlopes, lengthOf, facingOf, evenFacing, evenNormal}
-use Rattle.surfaces.specs.Surface.{surfaceEnd, surfaceNormal, onwardFrom, turnRule}
+use Rattle.surfaces.specs.Sags.{edgeRoot}
+use Rattle.surfaces.specs.Asphere.{powerSumFrom, slopeSumFrom, baseSag, baseSlope, evenSag, evenSlope, radialSlopes}
+use Rattle.surfaces.specs.Asphere.{evenSlopes, lengthOf, facingOf, evenFacing, evenNormal}
+use Rattle.surfaces.specs.Edges.{Case, _⇒_, agree}
+use Rattle.surfaces.specs.Surface.{surfaceEnd, surfaceNormal, onwardFrom, turnAnswer}
 use Rattle.recipe.specs.Endian.{u16At, u64At, numberAt, numbersAt}
-use Rattle.recipe.specs.Record.{slotAt, lengthFits, shapedAt, semiSlot, kindOf, coefficientCount, coefficientsAt, opticAt, negativeSemi, recordAt}
+use Rattle.recipe.specs.Record.{slotAt, lengthFits, shapedAt, semiSlot, kindOf, coefficientCount, coefficientsAt}
+use Rattle.recipe.specs.Record.{opticAt, negativeSemi, recordAt}
 use Rattle.recipe.specs.Scan.{scan}
 use Rattle.recipe.specs.Source.{isSource, vectorAt, sourceOf}
-use Rattle.lines.specs.Text.{glyph, hexText, decimalText}
-use Rattle.trace.specs.Leg.{boundaryOf, farther, legFinite, legOf, beamAfter, hitRow, refusalRow, rowOf}
+use Rattle.lines.specs.Output.{glyph, hexText, decimalText}
+use Rattle.trace.specs.Leg.{boundaryOf, share, legFinite, legOf, beamAfter, hitRow, refusalRow, rowOf}
 use Rattle.trace.specs.Unbroken.{unbroken, total}
-use Rattle.trace.specs.Trace.{refusedAnswer, admission, startAt, startFileOf}
+use Rattle.trace.specs.Run.{refusedAnswer, admission, startAt}
 use Rattle.trace.specs.Demand3.{traceOf}
+use Rattle.trace.specs.File.{startFileOf}
 use Rattle.trace.specs.Example.{bytes, patterns, beamRecord, planeRecord}
-use Rattle.tracelist.specs.Listing.{ascii, line, recordLine, recordLines, endLine, refusedLine, traceLines, listing}
+use Rattle.tracelist.specs.Listing.{ascii, line, recordLine, recordLines, endLine, refusedLine, traceLines}
+use Rattle.tracelist.specs.Listing.{listing}
 
 -- a record by its kind and its numbers' patterns
 unfoldable pub recordOf : ℕ → List ℕ → List ℕ
@@ -33,7 +39,8 @@ recordOf kind numbers = bytes 2 (2 + 8 * length numbers) ++ bytes 2 kind ++ patt
 
 -- origin (4, 0, -2), direction z, index 1
 unfoldable pub offAxis : List ℕ
-offAxis = recordOf 0 (0x4010000000000000 ∷ 0 ∷ 0xc000000000000000 ∷ 0 ∷ 0 ∷ 0x3ff0000000000000 ∷ 0x3ff0000000000000 ∷ [])
+offAxis =
+    recordOf 0 (0x4010000000000000 ∷ 0 ∷ 0xc000000000000000 ∷ 0 ∷ 0 ∷ 0x3ff0000000000000 ∷ 0x3ff0000000000000 ∷ [])
 
 -- a plane at -1, index 1, semi-diameter 10
 unfoldable pub pane : List ℕ
@@ -51,46 +58,59 @@ inverted = recordOf 1 (0 ∷ 0x4000000000000000 ∷ 0 ∷ 0 ∷ 0xc0240000000000
 unfoldable pub noIndex : List ℕ
 noIndex = recordOf 0 (0 ∷ 0 ∷ 0xc014000000000000 ∷ 0 ∷ 0 ∷ 0x3ff0000000000000 ∷ 0 ∷ [])
 
-pub record Case : Type 0 where
-  pub file : List ℕ
-  pub prints : List String
-
-infix 4 _⇒_
-abbrev pub _⇒_ : List ℕ → List String → Case
-f ⇒ lines = record { file = f; prints = lines }
+-- a text, and another behind it
+infixr 80 _&_
+unfoldable pub _&_ : String → String → String
+no-text & t = t
+(c then s) & t = c then (s & t)
 
 -- the bytes of lines of text, each with its line feed
 unfoldable pub lined : List String → List ℕ
 lined [] = []
 lined (s ∷ rest) = ascii s ++ ascii "\n" ++ lined rest
 
-abbrev pub rules : List Case → List (List ℕ)
-rules [] = []
-rules (c ∷ l) = listing (c .file) ∷ rules l
-
-abbrev pub papers : List Case → List (List ℕ)
-papers [] = []
-papers (c ∷ l) = lined (c .prints) ∷ papers l
+-- a file, and what is printed of it
+infix 4 _prints_
+abbrev pub _prints_ : List ℕ → List String → Case
+f prints lines = listing f ⇒ lined lines
 
 unfoldable pub cases : List Case
 cases =
-    -- document 01's example
-    (beamRecord ++ planeRecord ⇒
-    "0 1 1 4014000000000000 0000000000000000 0000000000000000 0000000000000000 0000000000000000 0000000000000000 BFF0000000000000 0000000000000000 0000000000000000 3FF0000000000000 3FF0000000000000" ∷
+    -- the example of SCOPE L4
+    (beamRecord ++ planeRecord prints
+    "0 1 1 4014000000000000 0000000000000000 0000000000000000 0000000000000000 " &
+    "0000000000000000 0000000000000000 BFF0000000000000 " &
+    "0000000000000000 0000000000000000 3FF0000000000000 3FF0000000000000" ∷
     "end 1 1 4014000000000000" ∷ []) ∷
-    -- an even asphere is hit after 2 steps, a second one vignettes (7) after 2 with r 4 and its semi-diameter 3, and the plane behind it has no line
-    (offAxis ++ pane ++ bowl 0 0x4014000000000000 ++ bowl 0x4008000000000000 0x4008000000000000 ++ planeRecord ⇒
-    "0 1 1 3FF0000000000000 4010000000000000 0000000000000000 BFF0000000000000 0000000000000000 0000000000000000 BFF0000000000000 0000000000000000 0000000000000000 3FF0000000000000 3FF0000000000000" ∷
-    "1 1 2 4008000000000000 4010000000000000 0000000000000000 4000000000000000 3FE6A09E667F3BCC 0000000000000000 BFE6A09E667F3BCC 0000000000000000 0000000000000000 3FF0000000000000 3FF0000000000000" ∷
-    "2 7 2 4010000000000000 4008000000000000 0000000000000000 0000000000000000 0000000000000000 0000000000000000 0000000000000000 0000000000000000 0000000000000000 0000000000000000 0000000000000000" ∷
+    -- an even asphere is hit after 2 steps, a second one vignettes (7) after 2 with r 4 and its semi-diameter 3, and
+    -- the plane behind it has no line
+    (offAxis ++ pane ++ bowl 0 0x4014000000000000 ++ bowl 0x4008000000000000 0x4008000000000000 ++ planeRecord prints
+    "0 1 1 3FF0000000000000 4010000000000000 0000000000000000 BFF0000000000000 " &
+    "0000000000000000 0000000000000000 BFF0000000000000 " &
+    "0000000000000000 0000000000000000 3FF0000000000000 3FF0000000000000" ∷
+    "1 1 2 4008000000000000 4010000000000000 0000000000000000 4000000000000000 " &
+    "3FE6A09E667F3BCC 0000000000000000 BFE6A09E667F3BCC " &
+    "0000000000000000 0000000000000000 3FF0000000000000 3FF0000000000000" ∷
+    "2 7 2 4010000000000000 4008000000000000 0000000000000000 0000000000000000 " &
+    "0000000000000000 0000000000000000 0000000000000000 " &
+    "0000000000000000 0000000000000000 0000000000000000 0000000000000000" ∷
     "end 7 5 4010000000000000" ∷ []) ∷
     -- no records: done at once
-    (beamRecord ⇒ "end 1 0 0000000000000000" ∷ []) ∷
+    (beamRecord prints "end 1 0 0000000000000000" ∷ []) ∷
     -- without kind 0, 10 at 0; a record's refusal at its place from the file's start; the ray's at 0
-    (planeRecord ⇒ "refused 10 0" ∷ []) ∷
-    (beamRecord ++ planeRecord ++ inverted ⇒ "refused 3 104" ∷ []) ∷
-    (noIndex ++ planeRecord ⇒ "refused 4 0" ∷ []) ∷ []
+    (planeRecord prints "refused 10 0" ∷ []) ∷
+    (beamRecord ++ planeRecord ++ inverted prints "refused 3 104" ∷ []) ∷
+    (noIndex ++ planeRecord prints "refused 4 0" ∷ []) ∷ []
 
-pub each-case : rules cases ≡ papers cases
-unfolding cases recordOf offAxis pane bowl inverted noIndex lined ofBits toBits ofInt toUnsigned neg round add sub mul div lt le eq isNan decimal magnitude negative larger clamped infinite root dotOf overOf distance pointAt allFinite rayFinite everyFinite sagOf turnedIf negatedIf bent refracted landedWithin planeCrossing conicCrossing conicNormal gradientNormal normalAt arrivedAt movedBy passAt vertexPlane passesFrom newtonEnd powerSumFrom slopeSumFrom edgeRoot baseRoot baseSag baseSlope evenDepth evenSlopeFrom evenSlope radialSlopes evenSlopes lengthOf facingOf evenFacing evenNormal surfaceEnd surfaceNormal onwardFrom turnRule u16At u64At numberAt numbersAt slotAt lengthFits shapedAt semiSlot kindOf coefficientCount coefficientsAt opticAt negativeSemi recordAt scan isSource vectorAt sourceOf glyph hexText decimalText boundaryOf farther legFinite legOf beamAfter hitRow refusalRow rowOf unbroken total refusedAnswer admission startAt startFileOf traceOf bytes patterns beamRecord planeRecord ascii line recordLine recordLines endLine refusedLine traceLines listing
+pub each-case : agree cases ≡ true
+unfolding cases recordOf offAxis pane bowl inverted noIndex _&_ lined ofBits toBits ofInt toUnsigned neg round add sub
+    mul div lt le eq isNan decimal magnitude negative larger clamped infinite root dotOf overOf distance pointAt
+    allFinite rayFinite everyFinite turnedIf negatedIf bent refracted landedWithin planeCrossing conicCrossing
+    conicNormal gradientNormal normalAt arrivedAt movedBy passAt vertexPlane passesFrom newtonEnd powerSumFrom
+    slopeSumFrom edgeRoot baseSag baseSlope evenSag evenSlope radialSlopes evenSlopes lengthOf facingOf evenFacing
+    evenNormal surfaceEnd surfaceNormal onwardFrom turnAnswer u16At u64At numberAt numbersAt slotAt lengthFits shapedAt
+    semiSlot kindOf coefficientCount coefficientsAt opticAt negativeSemi recordAt scan isSource vectorAt sourceOf glyph
+    hexText decimalText boundaryOf share legFinite legOf beamAfter hitRow refusalRow rowOf unbroken total
+    refusedAnswer admission startAt startFileOf traceOf bytes patterns beamRecord planeRecord ascii line recordLine
+    recordLines endLine refusedLine traceLines listing
 each-case = refl

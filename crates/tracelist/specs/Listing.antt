@@ -1,4 +1,5 @@
--- What `tracelist` prints of a file: a line for each record of the unbroken trace and then its end, or one line for a refused start. Definitions only.
+-- What `tracelist` prints of a file: a line for each record of the unbroken trace and then its end, or one line for a
+-- refused start. Definitions only.
 use Prim.Native.Nat.{ℕ, suc, _*_}
 use Prim.Native.Char.{code}
 use Prim.Native.String.{String, [] as no-text, _∷_ as _then_}
@@ -7,13 +8,13 @@ use lib.Dec.{eqb}
 use lib.Ieee.{Float, nan, binary64, toBits, toUnsigned}
 use lib.ListN.{length, take, drop, getD, replicate}
 use Rattle.numbers.specs.Arithmetic.{if_then_else_, 0f}
-use Rattle.lines.specs.Text.{hexText, decimalText}
+use Rattle.lines.specs.Output.{hexText, decimalText}
 use Rattle.recipe.specs.Source.{sourceOf}
 use Rattle.trace.specs.Leg.{width}
 use Rattle.trace.specs.Unbroken.{Mark, Trace, total}
-use Rattle.trace.specs.Trace.{mostRecords, startFileOf}
+use Rattle.trace.specs.Run.{mostRecords}
 use Rattle.trace.specs.Demand3.{traceOf}
-use Rattle.trace.specs.File.{behindRay}
+use Rattle.trace.specs.File.{startFileOf, behindRay}
 
 -- the bytes of a text in ASCII
 unfoldable pub ascii : String → List ℕ
@@ -38,7 +39,8 @@ countIn row slot = toUnsigned 64 (getD row slot nan)
 
 -- a record's line: its number, its status (slot 0), its steps (slot 12), and slots 1 to 11 as bits
 unfoldable pub recordLine : ℕ → List Float → List ℕ
-recordLine number row = line (digits number) (digits (countIn row 0) ∷ digits (countIn row 12) ∷ map bits (take 11 (drop 1 row)))
+recordLine number row =
+    line (digits number) (digits (countIn row 0) ∷ digits (countIn row 12) ∷ map bits (take 11 (drop 1 row)))
 
 -- the lines of records, numbered from one on
 unfoldable pub recordLines : ℕ → List Mark → List ℕ
@@ -66,7 +68,8 @@ unfoldable pub listing : List ℕ → List ℕ
 listing f =
     let a = startFileOf f room .answer in
     let s = sourceOf f in
-    if eqb (a .number) 1 then traceLines (traceOf (behindRay f) (s .ray) (s .index)) else refusedLine (a .number) (a .place)
+    if eqb (a .number) 1 then traceLines (traceOf (behindRay f) (s .ray) (s .index)) else
+    refusedLine (a .number) (a .place)
 
 -- how long a text is, and a buffer that begins with it and is behind it as it was
 unfoldable pub filled : List ℕ → List ℕ → ℕ × List ℕ

@@ -15,10 +15,16 @@ markAt u k = getD (u .marks) k (record { row = []; steps = 0 })
 
 pub record Shown : Type 0 where
   -- a hit's status is 1
-  pub hit : (l : List Optic) (b : Beam) (k : ℕ) → let u = unbroken l b in k < u .hits → countIn (markAt u k .row) 0 ≡ 1
+  pub hit : (first : ℕ) (l : List Optic) (b : Beam) (k : ℕ) →
+      let u = unbroken first l b in
+      k < u .hits → countIn (markAt u k .row) 0 ≡ 1
   -- that of the refusal behind the hits is its number, the trace's outcome
-  pub refusal : (l : List Optic) (b : Beam) → let u = unbroken l b in u .outcome ≢ 1 → countIn (markAt u (u .hits) .row) 0 ≡ u .outcome
+  pub refusal : (first : ℕ) (l : List Optic) (b : Beam) →
+      let u = unbroken first l b in
+      u .outcome ≢ 1 → countIn (markAt u (u .hits) .row) 0 ≡ u .outcome
   -- the steps are the passes that the surface's rule takes
-  pub steps : (l : List Optic) (b : Beam) (k : ℕ) → let u = unbroken l b in k < length (u .marks) → countIn (markAt u k .row) 12 ≡ markAt u k .steps
+  pub steps : (first : ℕ) (l : List Optic) (b : Beam) (k : ℕ) →
+      let u = unbroken first l b in
+      k < length (u .marks) → countIn (markAt u k .row) 12 ≡ markAt u k .steps
   -- a file longer than 55,356 bytes is told by its first 55,357
   pub long : (f : List ℕ) → 55356 < length f → listing f ≡ listing (take 55357 f)

@@ -3,44 +3,52 @@ ghost use mathlib.Core.Path.{_≡_};
 ghost use Prim.Native.Nat.{_+_, _*_, _^_, _≤_, _<_};
 ghost use lib.Ieee.{toUnsigned};
 ghost use lib.ListN.{length};
-ghost use Rattle.lines.specs.Text.{ended};
+ghost use Rattle.lines.specs.Output.{ended};
 ghost use Rattle.trace.specs.Leg.{width};
-ghost use Rattle.trace.specs.Trace.{mostRecords};
+ghost use Rattle.trace.specs.Run.{mostRecords};
 ghost use Rattle.tracelist.specs.Listing.{recordLine, endLine, refusedLine, listing, filled};
 ghost use Rattle.tracelist.specs.Parts.{written, recordBytes, lastBytes, rowLines, recordsOf, stateLines};
+use lines::COUNT_BYTES;
+use lines::FLOAT_BYTES;
 use lines::put_count;
 use lines::put_float;
 use lines::put_floats;
 use lines::put_word;
 use recipe::read_source;
-use trace::MOST;
-use trace::SOURCE;
+use surfaces::ACCEPTED;
+use trace::DONE;
+use trace::MOST_RECORDS;
+use trace::MOST_ROOM;
+use trace::RECORD_NUMBERS;
+use trace::RECORD_STATUS;
+use trace::RECORD_STEPS;
+use trace::RECORD_T;
+use trace::SOURCE_BYTES;
 use trace::State;
-use trace::WIDTH;
 use trace::start_file;
 use trace::whole;
 
-// The most bytes of a record's line: three counts of at most 20 digits, 11 numbers of 16, and a space or the line feed behind each.
-const RECORD: usize = 3 * 21 + 11 * 17;
+// The most bytes of a record's line: three counts, and the numbers from t up to the steps.
+const RECORD_BYTES: usize = 3 * COUNT_BYTES + (RECORD_STEPS - RECORD_T) * FLOAT_BYTES;
 
 // Those of the last line: a word, two counts and a number.
-const LAST: usize = 4 + 2 * 21 + 17;
+const LAST_BYTES: usize = 4 + 2 * COUNT_BYTES + FLOAT_BYTES;
 
 // Those of a listing.
-pub(crate) const MOST_BYTES: usize = MOST * RECORD + LAST;
+pub(crate) const MOST_BYTES: usize = MOST_RECORDS * RECORD_BYTES + LAST_BYTES;
 
 // Puts what is printed of a file at the buffer's start, and answers how many bytes that are.
 pub(crate) fn list(file: &[u8], out: &mut [u8; MOST_BYTES]) -> usize
     ensures { λ r. ⌜ (r, now (out .exit)) ≡ filled (now (out .entry)) (listing (now (file .entry))) ⌝ }
 {
-    let mut results = [0.0; MOST * WIDTH];
+    let mut results = [0.0; MOST_ROOM];
     let started = start_file(file, &mut results);
-    if started.number != 1 {
+    if started.number != ACCEPTED {
         return put_refused(out, started.number, started.place);
     }
     let source = read_source(file);
     let ray = source.ray;
-    let traced = whole(&file[SOURCE..], ray, source.index, &mut results);
+    let traced = whole(&file[SOURCE_BYTES..], ray, source.index, &mut results);
     let s = traced.state;
     put_trace(out, &results, s)
 }
@@ -56,7 +64,7 @@ fn put_refused(out: &mut [u8], number: u8, place: usize) -> usize
     end
 }
 
-fn put_trace(out: &mut [u8; MOST_BYTES], results: &[f64; MOST * WIDTH], s: State) -> usize
+fn put_trace(out: &mut [u8; MOST_BYTES], results: &[f64; MOST_ROOM], s: State) -> usize
     requires { ⌜ recordsOf (s .outcome) (s .number) ≤ mostRecords ⌝ }
     ensures { λ r. ⌜ (r, now (out .exit)) ≡ filled (now (out .entry)) (stateLines (now (results .entry)) s) ⌝ }
 {
@@ -70,7 +78,7 @@ fn records_of(outcome: u8, hits: usize) -> usize
     requires { ⌜ recordsOf outcome hits < 2 ^ 64 ⌝ }
     ensures { λ r. ⌜ r ≡ recordsOf outcome hits ⌝ }
 {
-    if outcome == 1 { hits } else { hits + 1 }
+    if outcome == DONE { hits } else { hits + 1 }
 }
 
 fn put_records(out: &mut [u8], results: &[f64], count: usize) -> usize
@@ -79,8 +87,8 @@ fn put_records(out: &mut [u8], results: &[f64], count: usize) -> usize
 {
     let mut end = 0;
     for i in 0..count {
-        let at = i * WIDTH;
-        end = put_record(out, end, i, &results[at..at + WIDTH]);
+        let at = i * RECORD_NUMBERS;
+        end = put_record(out, end, i, &results[at..at + RECORD_NUMBERS]);
     }
     end
 }
@@ -90,15 +98,15 @@ fn put_record(out: &mut [u8], at: usize, number: usize, row: &[f64]) -> usize
     ensures { λ r. ⌜ (r, now (out .exit)) ≡ written (now (out .entry)) at (recordLine number (now (row .entry))) ⌝ }
 {
     let mut end = put_count(out, at, number as u64);
-    end = put_count(out, end, count(row[0]));
-    end = put_count(out, end, count(row[12]));
-    end = put_floats(out, end, &row[1..12]);
+    end = put_count(out, end, count(row[RECORD_STATUS]));
+    end = put_count(out, end, count(row[RECORD_STEPS]));
+    end = put_floats(out, end, &row[RECORD_T..RECORD_STEPS]);
     end_line(out, end);
     end
 }
 
-// A slot's count. A status and a number of steps pass the tests, which are those that dropping a fraction asks for; any other number is
-// past an end of the range.
+// A slot's count. A status and a number of steps pass the tests, which are those that dropping a fraction asks for; any
+// other number is past an end of the range.
 fn count(x: f64) -> u64
     ensures { λ r. ⌜ r ≡ toUnsigned 64 x ⌝ }
 {

@@ -1,7 +1,7 @@
-// Lists what a trace leaves. The file on standard input has the ray and its starting index, and then the recipe. Each record that was
-// written is told by a line: number, status, steps and slots 1 to 11. The last line has `end`, the outcome, all steps and the path. A
-// file that is refused is told by `refused`, the number and the place. Where reading or writing fails, a word on standard error says
-// which: a program has no exit status of its own.
+// Lists what a trace leaves. The file on standard input has the ray and its starting index, and then the recipe. Each
+// record that was written is told by a line: number, status, steps and slots 1 to 11. The last line has `end`, the
+// outcome, all steps and the path. A file that is refused is told by `refused`, the number and the place. Where reading
+// or writing fails, a word on standard error says which: a program has no exit status of its own.
 ghost use Prim.Native.Nat.{_≤_};
 ghost use lib.ListN.{length};
 
@@ -12,11 +12,11 @@ use libc::STDIN_FILENO;
 use libc::STDOUT_FILENO;
 use listing::MOST_BYTES;
 use listing::list;
-use trace::MOST;
-use trace::SOURCE;
+use trace::MOST_RECIPE_BYTES;
+use trace::SOURCE_BYTES;
 
-// The ray's, those of 512 records of the longest kind, and one: by a theorem these alone decide what is printed of a longer file.
-const FILE: usize = SOURCE + MOST * 108 + 1;
+// The ray's bytes, the longest recipe's and one: by a theorem these alone decide what is printed of a longer file.
+const FILE: usize = SOURCE_BYTES + MOST_RECIPE_BYTES + 1;
 
 // How many bytes were read, and whether all reads succeeded.
 struct Input {

@@ -20,45 +20,18 @@ unsafe extern "C" {
     pub(crate) safe fn pilingrue_version() -> u64;
 
     fn pilingrue_start(
-        recipe: *const u8,
-        recipe_bytes: usize,
-        ox: f64,
-        oy: f64,
-        oz: f64,
-        dx: f64,
-        dy: f64,
-        dz: f64,
-        index: f64,
-        buffer: *mut f64,
-        room: usize,
-        counts: &mut [u64; COUNTS],
-        numbers: &mut [f64; NUMBERS],
+        recipe: *const u8, recipe_bytes: usize, ox: f64, oy: f64, oz: f64, dx: f64, dy: f64, dz: f64, index: f64,
+        buffer: *mut f64, room: usize, counts: &mut [u64; COUNTS], numbers: &mut [f64; NUMBERS],
     ) -> Verdict;
 
     fn pilingrue_continue(
-        recipe: *const u8,
-        recipe_bytes: usize,
-        buffer: *mut f64,
-        room: usize,
-        counts: &mut [u64; COUNTS],
-        numbers: &mut [f64; NUMBERS],
-        allowed: u16,
+        recipe: *const u8, recipe_bytes: usize, buffer: *mut f64, room: usize, counts: &mut [u64; COUNTS],
+        numbers: &mut [f64; NUMBERS], allowed: u16,
     ) -> Verdict;
 
     fn pilingrue_whole(
-        recipe: *const u8,
-        recipe_bytes: usize,
-        ox: f64,
-        oy: f64,
-        oz: f64,
-        dx: f64,
-        dy: f64,
-        dz: f64,
-        index: f64,
-        buffer: *mut f64,
-        room: usize,
-        counts: &mut [u64; COUNTS],
-        numbers: &mut [f64; NUMBERS],
+        recipe: *const u8, recipe_bytes: usize, ox: f64, oy: f64, oz: f64, dx: f64, dy: f64, dz: f64, index: f64,
+        buffer: *mut f64, room: usize, counts: &mut [u64; COUNTS], numbers: &mut [f64; NUMBERS],
     ) -> Verdict;
 }
 

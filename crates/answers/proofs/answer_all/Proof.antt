@@ -1,4 +1,4 @@
--- `answers::answer_all` is safe and ends: the buffer keeps its length, and the measure is the number of turns that are left. Assumes nothing.
+-- The buffer keeps its length, and the measure is the number of turns that are left. Assumes nothing.
 use mathlib.Core.Path.{_≡_}
 use lib.ListN.{length}
 use borrow.Author.Needs.{needs}

@@ -1,4 +1,4 @@
--- `answers::answer_line` is safe: the operands fit the array, by what reading them promises of each case. Assumes nothing.
+-- The operands fit the array, by what reading them promises of each case. Assumes nothing.
 use borrow.Author.Needs.{needs}
 use Rattle.answers.proofs.answer_line.Statement.{statement}
 use Rattle.answers.proofs.answer_line.Tie as tie

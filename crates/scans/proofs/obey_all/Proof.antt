@@ -1,10 +1,11 @@
--- `scans::obey_all` is safe and ends: the measure is the number of turns that are left. Assumes nothing.
+-- The measure is the number of turns that are left. Assumes nothing.
 use borrow.Author.Needs.{needs}
 use Rattle.scans.proofs.obey_all.Statement.{statement}
 use Rattle.scans.proofs.obey_all.Tie as tie
 
 abbrev Inv-loop : tie.InvT-loop
-Inv-loop buffer₀ given₀ recipe₀ results₀ unread₀ station₀ turns₀ buffer given recipe results unread station turns = Unit {0}
+Inv-loop buffer₀ given₀ recipe₀ results₀ unread₀ station₀ turns₀ buffer given recipe results unread station turns =
+    Unit {0}
 
 abbrev μ-loop : tie.MeasureT-loop
 μ-loop buffer₀ given₀ recipe₀ results₀ unread₀ station₀ turns₀ buffer given recipe results unread station turns = turns

@@ -1,14 +1,11 @@
--- Slot by slot, as the rule says. Assumes nothing.
+-- Drafted (tools/draft): opens Lent.stateIn. By the tests and the calls, in order. Assumes nothing.
 use borrow.Author.Needs.{needs}
 use Rattle.station.specs.Lent.{stateIn}
 use Rattle.station.proofs.state_in.Statement.{statement}
 use Rattle.station.proofs.state_in.Tie as tie
 
-returns : tie.Need-returns
-unfolding stateIn
-returns c = rw (c .before .before .passes-in .ensures, c .before .ray-of .ensures, c .outcome-in .ensures)
-
 pub state-in-spec : {M : Type 1} → statement M
+unfolding stateIn
 state-in-spec =
     tie.close
     (tie.spec
@@ -29,4 +26,6 @@ state-in-spec =
     (λ c. search needs)
     (λ c. search needs)
     (λ c κs. tt)
-    returns)
+    (λ c.
+    let c1 = c .before in let c2 = c1 .before in
+    rw (← c2 .passes-in .ensures, ← c1 .ray-of .ensures, ← c .outcome-in .ensures)))

@@ -1,4 +1,4 @@
--- `tracelist::main` is safe: what was read and what is printed lie within their buffers. Assumes nothing.
+-- What was read and what is printed lie within their buffers. Assumes nothing.
 use Prim.Native.Nat.{ℕ, _≤_}
 use mathlib.Core.Path.{_≡_, sym}
 use mathlib.Core.List.{List}
@@ -14,6 +14,10 @@ within : (out text : List ℕ) (p : ℕ × List ℕ) → p ≡ filled out text �
 unfolding filled
 within out text p e = rw e (omega (arith, length-append text (drop (length text) out)))
 
+-- the reading, from where it has succeeded
+abbrev read : tie.Else1 → tie.After-read-input
+read c = c .before .before .before
+
 pub main-spec : {M : Type 1} → statement M
 main-spec =
     tie.close
@@ -24,7 +28,7 @@ main-spec =
     (λ c κs. search needs)
     (λ c. search needs)
     (λ c. search needs)
-    (λ c. sym (length-take-le _ _ (c .before .before .before .before .read-input .ensures)))
+    (λ c. sym (length-take-le _ _ (read (c .before) .read-input .ensures)))
     (λ c κs. search needs)
     (λ c. within _ _ _ (c .list .ensures))
     (λ c. sym (length-take-le _ _ (within _ _ _ (c .before .list .ensures))))

@@ -1,4 +1,4 @@
--- `tracelist::read_input` is safe and ends: the buffer keeps its length, and each turn leaves less room behind what was read. Assumes nothing.
+-- The buffer keeps its length, and each turn leaves less room behind what was read. Assumes nothing.
 use Prim.Native.Nat.{_-_, _≤_}
 use mathlib.Core.Path.{_≡_}
 use lib.ListN.{length}

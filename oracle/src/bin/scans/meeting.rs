@@ -1,7 +1,8 @@
 //! Where a ray meets a surface, and in how many passes.
 //!
-//! The Rust text's intersections do not tell their passes, so Newton's are made here once more, over the Rust text's own sags and
-//! slopes. Each time they are made from the first one on, their end has to be what the Rust text's own intersection answers.
+//! The Rust text's intersections do not tell their passes, so Newton's are made here once more, over the Rust text's
+//! own sags and slopes. Each time they are made from the first one on, their end has to be what the Rust text's own
+//! intersection answers.
 
 use std::ops::ControlFlow::{self, Break, Continue};
 
@@ -61,7 +62,8 @@ impl Surface {
         meeting
     }
 
-    /// The Rust text's, but a t of -0.0 is +0.0: document 01's maximum of mixed zeros, whose sign `f64::max` leaves open.
+    /// The Rust text's, but a t of -0.0 is +0.0: SCOPE's maximum of mixed zeros, whose sign `f64::max` leaves
+    /// open.
     fn conic_end(&self, ray: &Ray, s: &ConicSurface) -> End {
         let hit = intersect_conic(ray, s, 0)?;
         let end = (hit.t + 0.0, ray.at(hit.t + 0.0));
@@ -114,8 +116,7 @@ struct Newton<'a> {
 impl<'a> Newton<'a> {
     /// Of a biconic or a toroid.
     fn of_meridians(
-        semi: f64,
-        sag: impl Fn(Vec3) -> Result<f64, OpticsError> + 'a,
+        semi: f64, sag: impl Fn(Vec3) -> Result<f64, OpticsError> + 'a,
         slopes: impl Fn(Vec3) -> Result<(f64, f64), OpticsError> + 'a,
     ) -> Self {
         Newton {

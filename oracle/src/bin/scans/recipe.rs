@@ -1,4 +1,4 @@
-//! The recipe as document 01 writes it: records of bytes, one for each surface.
+//! The recipe as SCOPE has it (R1 to R5): records of bytes, one for each surface.
 
 use oracle::conic::ConicSurface;
 use oracle::surface::asphere::EvenAsphere;

@@ -62,7 +62,7 @@ impl State {
         format!("{number} {place} {passes}{t}{origin}{direction}{ends} {steps} {outcome}")
     }
 
-    /// Whether none of document 01's reasons for a 12 holds.
+    /// Whether none of SCOPE's reasons for a 12 (C5) holds.
     pub fn fits(&self, surfaces: &[Surface], end: usize) -> bool {
         let ended = self.outcome != 0;
         let at = usize::try_from(self.number).ok().and_then(|number| surfaces.get(number));

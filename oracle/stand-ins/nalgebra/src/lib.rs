@@ -1,4 +1,5 @@
-//! What the Rust text uses of nalgebra's `Vector3`, as document 01 has it: component by component, a dot product from the left.
+//! What the Rust text uses of nalgebra's `Vector3`, as SCOPE has it: component by component, a dot product from
+//! the left.
 
 use std::ops::{Add, Div, Mul, Neg, Sub};
 

@@ -1,4 +1,4 @@
--- `answers::answer::first` is safe: there are as many values as it hands out. Assumes nothing.
+-- There are as many values as it hands out. Assumes nothing.
 use mathlib.Core.Path.{sym}
 use lib.Seq.{length-take-le}
 use borrow.Author.Needs.{needs}

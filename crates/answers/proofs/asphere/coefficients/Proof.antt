@@ -1,4 +1,4 @@
--- `answers::asphere::coefficients` is safe and ends: the loop's tests keep the index within the slots and the operands. Assumes nothing.
+-- The loop's tests keep the index within the slots and the operands. Assumes nothing.
 use Prim.Native.Nat.{_-_}
 use mathlib.Core.Path.{_≡_}
 use lib.ListN.{length}

@@ -1,4 +1,4 @@
--- `answers::operands::read_numbers` meets its contract: each turn adds one number, up to 64. Assumes nothing.
+-- Each turn adds one number, up to 64. Assumes nothing.
 use Prim.Native.Nat.{_-_, _≤_}
 use borrow.Author.Needs.{needs}
 use Rattle.answers.proofs.operands.read_numbers.Statement.{statement}

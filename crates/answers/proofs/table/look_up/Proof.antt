@@ -1,4 +1,4 @@
--- `answers::table::look_up` is safe and ends: the measure is how many rows are left of 16. Assumes nothing.
+-- The measure is how many rows are left of 16. Assumes nothing.
 use Prim.Native.Nat.{_-_}
 use borrow.Author.Needs.{needs}
 use Rattle.answers.proofs.table.look_up.Statement.{statement}

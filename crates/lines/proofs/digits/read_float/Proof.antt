@@ -1,4 +1,4 @@
--- `lines::digits::read_float` meets its contract: the tests and the calls on the way, in their order. Assumes nothing.
+-- Drafted (tools/draft): opens Digits.floatOf, Digits.readFloat. By the tests and the calls, in order. Assumes nothing.
 use borrow.Author.Needs.{needs}
 use borrow.Author.Tests.{eq-eqb, ne-eqb}
 use Rattle.lines.specs.Digits.{floatOf, readFloat}
@@ -16,8 +16,8 @@ read-float-spec =
     (λ c κs. tt)
     (λ c. search needs)
     (λ c.
-    let c2 = c .before .before in let c4 = c2 .before .before in
-    rw (eq-eqb _ _ (c4 .before .if1 .left), ← c4 .spelled .ensures, c2 .bits .given .1, c .from-bits .ensures))
+    let c2 = c .before .before in let c4 = c2 .before .before in let c5 = c4 .before in
+    rw (eq-eqb _ _ (c5 .if1 .left), ← c4 .spelled .ensures, c2 .bits .given .1, ← c .from-bits .ensures))
     (λ c.
-    let c2 = c .before .before in
-    rw (eq-eqb _ _ (c2 .before .if1 .left), ← c2 .spelled .ensures, c .enum-told .given .1)))
+    let c2 = c .before .before in let c3 = c2 .before in
+    rw (eq-eqb _ _ (c3 .if1 .left), ← c2 .spelled .ensures, c .enum-told .given .1)))

@@ -1,4 +1,5 @@
--- `lines::input::move_to_front` is safe and ends: the place stays between the part's ends, and the buffer keeps its length. Assumes nothing.
+-- `lines::input::move_to_front` is safe and ends: the place stays between the part's ends, and the buffer keeps its
+-- length. Assumes nothing.
 use Prim.Native.Nat.{_-_, _≤_}
 use mathlib.Core.Path.{_≡_}
 use lib.ListN.{length, length-set}

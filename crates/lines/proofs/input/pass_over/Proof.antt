@@ -1,4 +1,5 @@
--- `lines::input::pass_over` is safe and ends: the buffer keeps its length, and the measure is the number of turns that are left. Assumes nothing.
+-- `lines::input::pass_over` is safe and ends: the buffer keeps its length, and the measure is the number of turns that
+-- are left. Assumes nothing.
 use mathlib.Core.Path.{_≡_}
 use lib.ListN.{length}
 use borrow.Author.Needs.{needs}

@@ -1,7 +1,7 @@
--- `lines::output::glyph` meets its contract. Assumes nothing.
+-- Drafted (tools/draft): opens Output.glyph. By the tests and the calls, in order. Assumes nothing.
 use borrow.Author.Needs.{needs}
-use borrow.Author.Tests.{lt-ltb, le-ltb}
-use Rattle.lines.specs.Text.{glyph}
+use borrow.Author.Tests.{le-ltb, lt-ltb}
+use Rattle.lines.specs.Output.{glyph}
 use Rattle.lines.proofs.output.glyph.Statement.{statement}
 use Rattle.lines.proofs.output.glyph.Tie as tie
 

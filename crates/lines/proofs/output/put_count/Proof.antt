@@ -16,4 +16,5 @@ put-count-spec =
     (λ c. search needs)
     (λ c.
     let c2 = c .before .before in let c5 = c2 .before .before .before in
-    c2 .put-word .ensures ∙ rw (c5 .decimal .ensures .1 .1, ← decimal-is _ _ (search needs) (c5 .decimal .ensures .1 .0))))
+    c2 .put-word .ensures
+    ∙ rw (c5 .decimal .ensures .1 .1, ← decimal-is _ _ (search needs) (c5 .decimal .ensures .1 .0))))

@@ -1,5 +1,4 @@
--- `lines::output::put_float` meets its contract: the callees' promises, one after the other. Assumes nothing.
-use mathlib.Core.Path.{_∙_}
+-- Drafted (tools/draft): opens nothing. By the tests and the calls, in order. Assumes nothing.
 use borrow.Author.Needs.{needs}
 use Rattle.lines.proofs.output.put_float.Statement.{statement}
 use Rattle.lines.proofs.output.put_float.Tie as tie
@@ -14,5 +13,5 @@ put-float-spec =
     (λ c κs. tt)
     (λ c. search needs)
     (λ c.
-    let c2 = c .before .before in let c5 = c2 .before .before .before in
-    c2 .put-word .ensures ∙ rw (c5 .hex-text .ensures, c5 .before .bits-of .ensures)))
+    let c2 = c .before .before in let c5 = c2 .before .before .before in let c6 = c5 .before in
+    rw (← c6 .bits-of .ensures, ← c5 .hex-text .ensures, ← c2 .put-word .ensures)))

@@ -1,22 +1,22 @@
--- `lines::output::put_floats` meets its contract: at each turn the numbers that are left, put behind those before them, come to the same.
--- Assumes nothing.
+-- `lines::output::put_floats` meets its contract: at each turn the numbers that are left, put behind those before them,
+-- come to the same. Assumes nothing.
 use Prim.Native.Nat.{ℕ, _+_, _-_, _≤_, _<_}
 use mathlib.Core.List.{List}
 use mathlib.Core.Path.{_≡_, _∙_}
-use native.Mathlib.Numerals.{add-one}
 use lib.Ieee.{Float, binary64, toBits}
 use lib.ListN.{length, drop, getD, drop-of-length-le}
-use lib.Seq.{drop-cons}
 use borrow.Author.Needs.{needs}
-use Rattle.lines.specs.Text.{hexText, put, putFloats}
+use Rattle.numbers.proofs.Lists.{next-element}
+use Rattle.lines.specs.Output.{hexText, put, putFloats}
 use Rattle.lines.proofs.output.put_floats.Statement.{statement}
 use Rattle.lines.proofs.output.put_floats.Tie as tie
 
 module _ (line : ℕ × List ℕ) (values : List Float) (i : ℕ) where
   one-more : (d : Float) → i < length values →
-      putFloats (put (line .1) (line .0) (hexText 16 (toBits binary64 (getD values i d)))) (drop (i + 1) values) ≡ putFloats line (drop i values)
+      let text = hexText 16 (toBits binary64 (getD values i d)) in
+      putFloats (put (line .1) (line .0) text) (drop (i + 1) values) ≡ putFloats line (drop i values)
   unfolding putFloats
-  one-more d h = rw (add-one i, drop-cons values i d h)
+  one-more d h = rw (next-element values i d h)
 
   all-put : length values ≤ i → line ≡ putFloats line (drop i values)
   unfolding putFloats
@@ -29,6 +29,10 @@ Inv-loop out₀ at values end₀ i₀ i-end out end i =
 abbrev μ-loop : tie.MeasureT-loop
 μ-loop out₀ at values end₀ i₀ i-end out end i = length values - i
 
+-- the turn in which a number was put
+abbrev turn : tie.After-put-float Inv-loop μ-loop → tie.At-loop Inv-loop μ-loop
+turn c = c .before .before .before .before
+
 pub put-floats-spec : {M : Type 1} → statement M
 put-floats-spec =
     tie.close
@@ -40,9 +44,12 @@ put-floats-spec =
     (λ c. search needs)
     (λ c. search needs)
     (λ c.
-    let called = c .before .before in let turn = called .before .before .before .before in (
+    let called = c .before .before in let at = turn called in (
       search needs,
-      rw (called .put-float .ensures) (one-more (turn .loop .end, turn .loop .out) _ (turn .loop .i) _ (search needs) ∙ turn .loop .inv .1),
+      rw (called .put-float .ensures)
+          (one-more (at .loop .end, at .loop .out) _ (at .loop .i) _ (search needs) ∙ at .loop .inv .1),
     ))
     (λ c. search needs)
-    (λ c. let at = c .before in all-put (at .loop .end, at .loop .out) _ (at .loop .i) (search needs) ∙ at .loop .inv .1))
+    (λ c.
+    let at = c .before in
+    all-put (at .loop .end, at .loop .out) _ (at .loop .i) (search needs) ∙ at .loop .inv .1))

@@ -5,7 +5,7 @@ use lib.ListN.{length-set}
 use lib.Seq.{length-take-le}
 use borrow.Author.Needs.{needs}
 use borrow.Author.Tests.{eq-eqb, ne-eqb, lt-ltb, le-ltb}
-use Rattle.lines.specs.Text.{ended}
+use Rattle.lines.specs.Output.{ended}
 use Rattle.lines.proofs.output.write_line.Statement.{statement}
 use Rattle.lines.proofs.output.write_line.Tie as tie
 

@@ -1,4 +1,4 @@
--- `lines::words::next_word` meets its contract: the two runs, one after the other. Assumes nothing.
+-- Drafted (tools/draft): opens Words.wordFrom. By the tests and the calls, in order. Assumes nothing.
 use Rattle.lines.specs.Words.{wordFrom}
 use Rattle.lines.proofs.words.next_word.Statement.{statement}
 use Rattle.lines.proofs.words.next_word.Tie as tie
@@ -10,4 +10,4 @@ next-word-spec =
     (tie.spec
     (λ c κs. tt)
     (λ c κs. tt)
-    (λ c. rw (c .run-end2 .ensures, c .before .run-end .ensures)))
+    (λ c. let c1 = c .before in rw (← c1 .run-end .ensures, ← c .run-end2 .ensures)))

@@ -1,4 +1,5 @@
--- `lines::words::part` meets its contract: where there are fewer bytes, `take` and `drop` come to the same. Assumes nothing.
+-- `lines::words::part` meets its contract: where there are fewer bytes, `take` and `drop` come to the same.
+-- Assumes nothing.
 use Prim.Native.Nat.{ℕ, _-_, _≤_}
 use mathlib.Core.List.{List, []}
 use mathlib.Core.Path.{_≡_}
@@ -23,6 +24,10 @@ module _ (l : List ℕ) (start end : ℕ) where
         take-all (end - start) (drop start l) (simp length-drop (omega arith)),
       )
 
+-- the function's start, from where the bytes up to the line's end are taken
+abbrev start : tie.After-result3 → tie.Start
+start c = c .before .before .before .before
+
 pub part-spec : {M : Type 1} → statement M
 part-spec =
     tie.close
@@ -34,7 +39,7 @@ part-spec =
     (λ c. search needs)
     (λ c. search needs)
     (λ c. search needs)
-    (λ c. let x = c .before .before .before .before .args in rest (x .line .now) (x .start) (x .end) (search needs))
+    (λ c. let x = start c .args in rest (x .line .now) (x .start) (x .end) (search needs))
     (λ c. search needs)
     (λ c. search needs)
     (λ c. search needs)

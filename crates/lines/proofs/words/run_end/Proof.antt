@@ -1,4 +1,5 @@
--- `lines::words::run_end` meets its contract: at each turn the place and the run from it on come to the same end. Assumes nothing.
+-- `lines::words::run_end` meets its contract: at each turn the place and the run from it on come to the same end.
+-- Assumes nothing.
 use Prim.Native.Nat.{ℕ, _+_, _-_, _≤_, _<_}
 use mathlib.Core.Bool.{Bool, true, false, Bool·beq}
 use mathlib.Core.List.{List}
@@ -9,7 +10,7 @@ use lib.ListN.{length, drop, getD, drop-of-length-le}
 use borrow.Author.Needs.{needs}
 use borrow.Author.Tests.{not-true, not-false}
 use Rattle.lines.specs.Words.{run}
-use Rattle.lines.proofs.Lists.{next-byte}
+use Rattle.numbers.proofs.Lists.{next-element}
 use Rattle.lines.proofs.words.run_end.Statement.{statement}
 use Rattle.lines.proofs.words.run_end.Tie as tie
 
@@ -20,11 +21,12 @@ module _ (l : List ℕ) (i : ℕ) (spaces : Bool) where
 
   stops : i < length l → Bool·beq (eqb (getD l i 0) 32) spaces ≡ false → run spaces (drop i l) ≡ 0
   unfolding run
-  stops h t = rw (next-byte l i h, t)
+  stops h t = rw (next-element l i 0 h, t)
 
-  goes : i < length l → Bool·beq (eqb (getD l i 0) 32) spaces ≡ true → run spaces (drop i l) ≡ run spaces (drop (i + 1) l) + 1
+  goes : i < length l → Bool·beq (eqb (getD l i 0) 32) spaces ≡ true →
+      run spaces (drop i l) ≡ run spaces (drop (i + 1) l) + 1
   unfolding run
-  goes h t = rw (next-byte l i h, t)
+  goes h t = rw (next-element l i 0 h, t)
 
 abbrev Inv-loop : tie.InvT-loop
 Inv-loop line at spaces i₀ i = i + run spaces (drop i line) ≡ at + run spaces (drop at line)
@@ -39,13 +41,13 @@ run-end-spec =
     (λ c. search needs)
     (λ c. search needs)
     (λ c.
-    let at = c .before .before .before in let x = at .before .args in
-    omega (arith, stops (x .line .now) (at .loop .i) (x .spaces) (c .before .before .loop-test .taken) (not-true _ (c .if1 .taken))))
+    let turn = c .before .before in let at = turn .before in let x = at .before .args in
+    omega (arith, stops (x .line .now) (at .loop .i) (x .spaces) (turn .loop-test .taken) (not-true _ (c .if1 .taken))))
     (λ c. search needs)
     (λ c. search needs)
     (λ c.
-    let at = c .before .before .before in let x = at .before .args in
-    omega (arith, goes (x .line .now) (at .loop .i) (x .spaces) (c .before .before .loop-test .taken) (not-false _ (c .if1 .left))))
+    let turn = c .before .before in let at = turn .before in let x = at .before .args in
+    omega (arith, goes (x .line .now) (at .loop .i) (x .spaces) (turn .loop-test .taken) (not-false _ (c .if1 .left))))
     (λ c.
     let at = c .before in let x = at .before .args in
     omega (arith, past (x .line .now) (at .loop .i) (x .spaces) (c .loop-test .left))))

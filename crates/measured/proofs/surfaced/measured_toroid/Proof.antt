@@ -1,11 +1,8 @@
--- What is returned follows from the tests and the calls on the way, in their order. Assumes nothing.
-use lib.Ieee.{ofBits}
-use Rattle.numbers.specs.Arithmetic.{decimal}
+-- Drafted (tools/draft): opens nothing. By the tests and the calls, in order. Assumes nothing.
 use Rattle.measured.proofs.surfaced.measured_toroid.Statement.{statement}
 use Rattle.measured.proofs.surfaced.measured_toroid.Tie as tie
 
 pub measured-toroid-spec : {M : Type 1} → statement M
-unfolding decimal ofBits
 measured-toroid-spec =
     tie.close
     (tie.spec

@@ -1,9 +1,10 @@
--- What is returned follows from the tests and the calls on the way, in their order. Assumes nothing.
+-- Drafted (tools/draft): opens Surfaced.sumLanding; refused by surfaces.Refusals.never-done.
+-- By the tests and the calls, in order. Assumes nothing.
 use borrow.Author.Needs.{needs}
-use Rattle.surfaces.proofs.Refusals.{never-done}
 use lib.Ieee.{ofBits}
 use Rattle.numbers.specs.Arithmetic.{decimal}
-use Rattle.measured.specs.Sums.{sumLanding}
+use Rattle.surfaces.proofs.Refusals.{never-done}
+use Rattle.measured.specs.Surfaced.{sumLanding}
 use Rattle.measured.proofs.surfaced.sum_of.Statement.{statement}
 use Rattle.measured.proofs.surfaced.sum_of.Tie as tie
 
@@ -14,7 +15,5 @@ sum-of-spec =
     (tie.spec
     (λ c. search needs)
     (λ c. search needs)
-    (λ c.
-    let c6 = c .before .before .before .before .before .before in
-    rw (c6 .x .given .1))
+    (λ c. let c6 = c .before .before .before .before .before .before in rw (c6 .x .given .1))
     (λ c. rw (c .enum-told .given .1, never-done)))

@@ -1,4 +1,5 @@
--- `numbers::root::corrected_root` meets its contract: k and the nearest whole number make the pattern of the root. Assumes nothing.
+-- `numbers::root::corrected_root` meets its contract: k and the nearest whole number make the pattern of the root.
+-- Assumes nothing.
 use borrow.Author.Needs.{needs}
 use Prim.Native.Nat.{_^_, _<_}
 use native.Mathlib.Omega.{arith}
@@ -17,5 +18,9 @@ corrected-root-spec =
     (λ c. search needs)
     (λ c κs. search needs)
     (λ c. omega (arith, few c))
-    (λ c. no-nan-bits (c .before .args .m) (c .before .args .k) (c .nearest-beside .result) (omega arith) (omega arith) (omega arith) (c .nearest-beside .ensures))
-    (λ c. root-bits (c .before .args .m) (c .before .args .k) (c .nearest-beside .result) (omega arith) (omega arith) (omega arith) (c .nearest-beside .ensures)))
+    (λ c.
+    let x = c .before .args in let q = c .nearest-beside in
+    no-nan-bits (x .m) (x .k) (q .result) (omega arith) (omega arith) (omega arith) (q .ensures))
+    (λ c.
+    let x = c .before .args in let q = c .nearest-beside in
+    root-bits (x .m) (x .k) (q .result) (omega arith) (omega arith) (omega arith) (q .ensures)))

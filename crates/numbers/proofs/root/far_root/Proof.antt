@@ -1,4 +1,5 @@
--- `numbers::root::far_root` meets its contract: a subnormal number's digits, moved up, are `Moved` of `proofs/Values.antt`. Assumes nothing.
+-- `numbers::root::far_root` meets its contract: a subnormal number's digits, moved up, are `Moved` of
+-- `proofs/Values.antt`. Assumes nothing.
 use Prim.Native.Nat.{_-_, _/_, _^_}
 use native.Mathlib.Omega.{arith}
 use lib.Count.{leadingZeros}
@@ -21,10 +22,14 @@ far-root-spec =
     (λ c. omega (arith, up c))
     (λ c. omega (arith, up c))
     (λ c κs. let u = up c in rw (u .kept) (u .digits .least, u .digits .most, u .digits .exponent))
-    (λ c. let u = up (c .before) in c .root-of-digits .ensures (patternUnits (c .before .before .args .b)) (rw (u .kept) (u .digits .place)))
+    (λ c.
+    let b = c .before .before .args .b in let u = up (c .before) in
+    c .root-of-digits .ensures (patternUnits b) (rw (u .kept) (u .digits .place)))
     (λ c. omega arith)
     (λ c. search needs)
     (λ c. search needs)
     (λ c. search needs)
     (λ c κs. search needs)
-    (λ c. let b = c .before .before .args .b in c .root-of-digits2 .ensures (patternUnits b) (normal-digits b (b / 2 ^ 52 - 1) (omega arith) (omega arith) .place)))
+    (λ c.
+    let b = c .before .before .args .b in let d = normal-digits b (b / 2 ^ 52 - 1) (omega arith) (omega arith) in
+    c .root-of-digits2 .ensures (patternUnits b) (d .place)))

@@ -1,4 +1,5 @@
--- `numbers::root::near_one` meets its contract: b is j * 2 or j * 2 + 1 units in the last place above 1, or as many below it, where they are half as large, and j * j is small beside 2 ^ 52. Assumes nothing.
+-- `numbers::root::near_one` meets its contract: b is j * 2 or j * 2 + 1 units in the last place above 1, or as many
+-- below it, where they are half as large, and j * j is small beside 2 ^ 52. Assumes nothing.
 use mathlib.Core.Path.{_≡_, refl, ap, _∙_}
 use Prim.Native.Nat.{ℕ, _+_, _-_, _*_, _/_, _%_, _^_, _≤_, _<_}
 use borrow.Author.Needs.{needs}
@@ -6,7 +7,7 @@ use native.Mathlib.Nat.{lt-of-not-le, mul-le-mul, mul-le-mul-left}
 use native.Mathlib.Decide.{decLe}
 use native.Mathlib.Omega.{arith}
 use lib.Ieee.{binary64, ofBits}
-use Rattle.numbers.specs.Sqrt.{rootUnits}
+use Rattle.numbers.specs.Root.{rootUnits}
 use Rattle.numbers.specs.Parts.{Near, patternUnits}
 use Rattle.numbers.proofs.Patterns.{within}
 use Rattle.numbers.proofs.Scale.{root-bits, normal-scale}
@@ -24,22 +25,32 @@ module _ (j r q m : ℕ) (d : j ≤ 2 ^ 26) (h : r < 2) where
   near-below i e f = at (2 ^ 52) e f (omega (arith, mul-le-mul d d)) (omega (arith, mul-le-mul-left j i))
     where
       -- over any u, since `omega` counts to 38 digits
-      at : (u : ℕ) → q + j ≡ 2 * u → m + 4 * j ≡ 4 * u + 2 * r → j * j < 2 * (r * u) + q → 2 * (r * u) ≤ j * j + q → Near (m * u) q
-      at u e f lo hi = let a = ap (λ (y : ℕ). y * y) e in let b = ap (λ (y : ℕ). y * j) e in let c = ap (λ (y : ℕ). y * u) f in omega arith
+      at : (u : ℕ) → q + j ≡ 2 * u → m + 4 * j ≡ 4 * u + 2 * r → j * j < 2 * (r * u) + q → 2 * (r * u) ≤ j * j + q →
+          Near (m * u) q
+      at u e f lo hi = omega (arith, ap (λ (y : ℕ). y * y) e, ap (λ (y : ℕ). y * j) e, ap (λ (y : ℕ). y * u) f)
 
 -- the pattern v of the root, from the q of a normal number whose exponent's field is e + 1
-root-of : (b e q v : ℕ) → b / 2 ^ 52 ≡ e + 1 → e < 2046 → Near ((b - e * 2 ^ 52) * (e % 2 + 1) * 2 ^ 52) q → v ≡ (e / 2 + 511) * 2 ^ 52 + q → ofBits binary64 v ≡ rootUnits (patternUnits b)
-root-of b e q v h l n p = let s = normal-scale b e h l in ap (ofBits binary64) p ∙ root-bits _ _ q (s .low) (s .high) (s .exponent) n (patternUnits b) (s .place)
+root-of : (b e q v : ℕ) → b / 2 ^ 52 ≡ e + 1 → e < 2046 → Near ((b - e * 2 ^ 52) * (e % 2 + 1) * 2 ^ 52) q →
+    v ≡ (e / 2 + 511) * 2 ^ 52 + q → ofBits binary64 v ≡ rootUnits (patternUnits b)
+root-of b e q v h l n p =
+    let s = normal-scale b e h l in
+    ap (ofBits binary64) p ∙ root-bits _ _ q (s .low) (s .high) (s .exponent) n (patternUnits b) (s .place)
 
 above : (b v : ℕ) → 1′ ≤ b → b < 1′ + 2 ^ 27 → v ≡ 1′ + (b - 1′) / 2 → ofBits binary64 v ≡ rootUnits (patternUnits b)
 above b v l h p =
     let j = (b - 1′) / 2 in
-    root-of b 1022 (2 ^ 52 + j) v (omega arith) (omega arith) (near-above j ((b - 1′) % 2) (2 ^ 52 + j) _ (omega arith) (omega arith) refl (omega arith)) (omega arith)
+    root-of b 1022 (2 ^ 52 + j) v (omega arith) (omega arith)
+    (near-above j ((b - 1′) % 2) (2 ^ 52 + j) _ (omega arith) (omega arith) refl (omega arith))
+    (omega arith)
 
-below : (b v : ℕ) → b < 1′ → 1′ ≤ b + 2 ^ 27 → v ≡ 1′ - (1′ - b + 1) / 2 → ofBits binary64 v ≡ rootUnits (patternUnits b)
+below : (b v : ℕ) → b < 1′ → 1′ ≤ b + 2 ^ 27 → v ≡ 1′ - (1′ - b + 1) / 2 →
+    ofBits binary64 v ≡ rootUnits (patternUnits b)
 below b v l h p =
     let j = (1′ - b + 1) / 2 in
-    root-of b 1021 (2 ^ 53 - j) v (omega arith) (omega arith) (near-below j ((1′ - b) % 2) (2 ^ 53 - j) _ (omega arith) (omega arith) (omega arith) (omega arith) (omega arith)) (omega arith)
+    let near = near-below j ((1′ - b) % 2) (2 ^ 53 - j) _ (omega arith) (omega arith) in
+    root-of b 1021 (2 ^ 53 - j) v (omega arith) (omega arith)
+    (near (omega arith) (omega arith) (omega arith))
+    (omega arith)
 
 add-result : tie.Need-add-result
 add-result c = search needs

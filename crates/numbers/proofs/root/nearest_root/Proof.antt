@@ -1,4 +1,5 @@
--- `numbers::root::nearest_root` meets its contract: with upper * upper + d = m and d * 2 ^ 26 = lower * (2 * upper) + u, the square of q differs from m * 2 ^ 52 by u * 2 ^ 26 - lower * lower. Assumes nothing.
+-- `numbers::root::nearest_root` meets its contract: with upper * upper + d = m and d * 2 ^ 26 =
+-- lower * (2 * upper) + u, the square of q differs from m * 2 ^ 52 by u * 2 ^ 26 - lower * lower. Assumes nothing.
 use borrow.Author.Needs.{needs}
 use Prim.Native.Nat.{ℕ, _+_, _-_, _*_, _/_, _%_, _^_, _≤_, _<_}
 use mathlib.Core.Path.{_≡_}
@@ -20,7 +21,8 @@ record Halved (m s l u : ℕ) : Type 0 where
   lower : l ≤ 2 ^ 26
   square : l * l ≤ l * 2 ^ 26
 
-halved : (m s : ℕ) → 2 ^ 52 ≤ m → m < 2 ^ 54 → Floor m s → Halved m s ((m - s * s) * 2 ^ 26 / (s * 2)) ((m - s * s) * 2 ^ 26 % (s * 2))
+halved : (m s : ℕ) → 2 ^ 52 ≤ m → m < 2 ^ 54 → Floor m s →
+    Halved m s ((m - s * s) * 2 ^ 26 / (s * 2)) ((m - s * s) * 2 ^ 26 % (s * 2))
 halved m s lo hi f =
     let a : 2 ^ 26 ≤ s = at-most m (2 ^ 26) s (omega arith) (f .1) in
     let b : s ≤ 2 ^ 27 - 1 = at-most m s (2 ^ 27 - 1) (f .0) (omega arith) in
@@ -44,7 +46,11 @@ module _ (m s l u q : ℕ) (h : Halved m s l u) where
   up : l * l + (s * 2 ^ 26 + l) < u * 2 ^ 26 → q ≡ s * 2 ^ 26 + l + 1 → Near (m * 2 ^ 52) q
   up g e = rw e (omega (arith, h .division, h .square, h .floor))
 
-of : (c : tie.After-whole-root) → let s = c .whole-root .result in let d = (c .before .args .m - s * s) * 2 ^ 26 in Halved (c .before .args .m) s (d / (s * 2)) (d % (s * 2))
+of : (c : tie.After-whole-root) →
+    let m = c .before .args .m in
+    let s = c .whole-root .result in
+    let d = (m - s * s) * 2 ^ 26 in
+    Halved m s (d / (s * 2)) (d % (s * 2))
 of c = halved (c .before .args .m) (c .whole-root .result) (omega arith) (omega arith) (c .whole-root .ensures)
 
 whole-root-requires : tie.Need-whole-root-requires

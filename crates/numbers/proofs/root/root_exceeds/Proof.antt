@@ -1,4 +1,5 @@
--- `numbers::root::root_exceeds` meets its contract: where the root is not worked out, it is not above y. Assumes nothing.
+-- `numbers::root::root_exceeds` meets its contract: where the root is not worked out, it is not above y.
+-- Assumes nothing.
 use mathlib.Core.Path.{sym}
 use mathlib.Core.Bool.{and-eq-true-iff}
 use borrow.Author.Needs.{needs}
@@ -14,7 +15,8 @@ returns c =
     let x = c .before .args .x in
     let y = c .before .args .y in
     let t = and-eq-true-iff (lt (ofBits binary64 0) y) (lt x (mul binary64 y y)) .0 (c .if1 .taken) in
-    sym (not-above x y (passes _ (c .before .good .0 .1)) (passes _ (c .before .good .1 .0 .1)) (positive y (t .0)) (t .1))
+    let good = c .before .good in
+    sym (not-above x y (passes _ (good .0 .1)) (passes _ (good .1 .0 .1)) (positive y (t .0)) (t .1))
 
 sqrt-requires : tie.Need-sqrt-requires
 sqrt-requires c κs = search needs

@@ -21,4 +21,4 @@ root-of-digits-spec =
     (λ c. search needs)
     (λ c κs. search needs)
     (λ c κs. omega (arith, at-most-twice (c .before .before .args .d) (c .before .before .args .p)))
-    (λ c n e. c .corrected-root .ensures n (even n (c .before .before .before .args .d) (c .before .before .before .args .p) e)))
+    (λ c n e. let x = c .before .before .before .args in c .corrected-root .ensures n (even n (x .d) (x .p) e)))

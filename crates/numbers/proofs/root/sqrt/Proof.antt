@@ -5,9 +5,10 @@ use native.Mathlib.Omega.{arith}
 use denote.Floats.{passes}
 use lib.Dec.{T}
 use lib.Ieee.{Float, binary64, fits, div, ofBits, toBits}
-use Rattle.numbers.specs.Sqrt.{root, rootUnits}
+use Rattle.numbers.specs.Root.{root, rootUnits}
 use Rattle.numbers.specs.Parts.{patternUnits}
-use Rattle.numbers.proofs.Signs.{Negative, minus-infinity, minus, Positive, infinity, plus, Neither, no-number, nought, negative, positive, neither, no-nan}
+use Rattle.numbers.proofs.Signs.{Negative, minus-infinity, minus, Positive, infinity, plus, Neither, no-number}
+use Rattle.numbers.proofs.Signs.{nought, negative, positive, neither, no-nan}
 use Rattle.numbers.proofs.Values.{units-pattern, bits-lt, bits-pos}
 use Rattle.numbers.proofs.root.sqrt.Statement.{statement}
 use Rattle.numbers.proofs.root.sqrt.Tie as tie
@@ -28,16 +29,22 @@ unfolding root
 of-infinite infinity h l = refl
 of-infinite (plus m e) h l = absurd (omega (arith, bits-lt m e h))
 
-of-finite : {x : Float} → Positive x → T (fits binary64 x) → toBits binary64 x < 0x7ff0_0000_0000_0000 → rootUnits (patternUnits (toBits binary64 x)) ≡ root x
+of-finite : {x : Float} → Positive x → T (fits binary64 x) → toBits binary64 x < 0x7ff0_0000_0000_0000 →
+    rootUnits (patternUnits (toBits binary64 x)) ≡ root x
 unfolding root toBits
 of-finite infinity h l = absurd (omega arith)
 of-finite (plus m e) h l = ap rootUnits (sym (units-pattern _ h l))
 
 -- the pattern of a number above zero is above 0, and at most infinity's
-range : {x : Float} → Positive x → T (fits binary64 x) → (0 < toBits binary64 x) × (toBits binary64 x ≤ 0x7ff0_0000_0000_0000)
+range : {x : Float} → Positive x → T (fits binary64 x) →
+    (0 < toBits binary64 x) × (toBits binary64 x ≤ 0x7ff0_0000_0000_0000)
 unfolding toBits
 range infinity h = omega arith
 range (plus m e) h = (bits-pos m e h, omega (arith, bits-lt m e h))
+
+-- where x is seen to be above zero, from where its exponent's field is compared
+abbrev seen-positive : tie.After-wrapping-sub-u642 → tie.Then1
+seen-positive c = c .before .before .before
 
 -- what owning an `f64` tells: the format holds it
 held : (c : tie.Start) → T (fits binary64 (c .args .x))
@@ -46,10 +53,13 @@ held c = passes _ (c .good .0 .1)
 above : (c : tie.Then1) → Positive (c .before .args .x)
 above c = positive (c .before .args .x) (c .if1 .taken)
 
-within : (c : tie.Then1) → (0 < toBits binary64 (c .before .args .x)) × (toBits binary64 (c .before .args .x) ≤ 0x7ff0_0000_0000_0000)
+within : (c : tie.Then1) →
+    let b = toBits binary64 (c .before .args .x) in (0 < b) × (b ≤ 0x7ff0_0000_0000_0000)
 within c = range (above c) (held (c .before))
 
-finite : (c : tie.Then1) → toBits binary64 (c .before .args .x) < 0x7ff0_0000_0000_0000 → rootUnits (patternUnits (toBits binary64 (c .before .args .x))) ≡ root (c .before .args .x)
+finite : (c : tie.Then1) →
+    let x = c .before .args .x in
+    toBits binary64 x < 0x7ff0_0000_0000_0000 → rootUnits (patternUnits (toBits binary64 x)) ≡ root x
 finite c = of-finite (above c) (held (c .before))
 
 float-to-bits-b : tie.Need-float-to-bits-b
@@ -71,16 +81,18 @@ middle-root-requires : tie.Need-middle-root-requires
 middle-root-requires c κs = search needs
 
 returns-2 : tie.Need-returns-2
-returns-2 c = c .middle-root .ensures ∙ finite (c .before .before .before .before .before) (omega arith)
+returns-2 c = c .middle-root .ensures ∙ finite (seen-positive (c .before .before)) (omega arith)
 
 far-root-requires : tie.Need-far-root-requires
-far-root-requires c κs = omega (arith, within (c .before .before .before .before .before))
+far-root-requires c κs = omega (arith, within (seen-positive (c .before .before)))
 
 returns-3 : tie.Need-returns-3
-returns-3 c = c .far-root .ensures ∙ finite (c .before .before .before .before .before .before) (omega arith)
+returns-3 c = c .far-root .ensures ∙ finite (seen-positive (c .before .before .before)) (omega arith)
 
 returns-4 : tie.Need-returns-4
-returns-4 c = of-infinite (above (c .before .before .before .before .before)) (held (c .before .before .before .before .before .before)) (omega arith)
+returns-4 c =
+    let p = seen-positive (c .before .before) in
+    of-infinite (above p) (held (p .before)) (omega arith)
 
 returns-5 : tie.Need-returns-5
 returns-5 c = of-negative (negative (c .before .before .args .x) (c .if5 .taken))

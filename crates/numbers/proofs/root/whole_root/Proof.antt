@@ -1,4 +1,5 @@
--- `numbers::root::whole_root` meets its contract. The invariant: r is the root of n with its last 2i digits left off, and rest is what it leaves; i is the measure. Assumes nothing.
+-- `numbers::root::whole_root` meets its contract. The invariant: r is the root of n with its last 2i digits left off,
+-- and rest is what it leaves; i is the measure. Assumes nothing.
 use mathlib.Core.Path.{_≡_, sym, ap, _∙_}
 use Prim.Native.Nat.{ℕ, _+_, _-_, _*_, _/_, _^_, _≤_, _<_}
 use native.Mathlib.Nat.{div-le-self, div-one}
@@ -21,7 +22,10 @@ more n i h = shr-shr n ((i - 1) * 2) 2 ∙ ap (λ (y : ℕ). n / 2 ^ y) (omega a
 none-left : (n i : ℕ) → i ≡ 0 → n / 2 ^ (i * 2) ≡ n
 none-left n i e = rw e (div-one n)
 
-small : (c : tie.In-loop Inv-loop μ-loop) → (c .before .loop .r ≤ 2 ^ 27 - 1) × (c .before .loop .r * c .before .loop .r + c .before .loop .rest ≡ c .before .before .args .n / 2 ^ ((c .before .loop .i - 1) * 2) / 4)
+small : (c : tie.In-loop Inv-loop μ-loop) →
+    let n = c .before .before .args .n in
+    let l = c .before .loop in
+    (l .r ≤ 2 ^ 27 - 1) × (l .r * l .r + l .rest ≡ n / 2 ^ ((l .i - 1) * 2) / 4)
 small c =
     let n = c .before .before .args .n in
     let l = c .before .loop in

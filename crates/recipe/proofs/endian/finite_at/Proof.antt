@@ -7,4 +7,8 @@ use Rattle.recipe.proofs.endian.finite_at.Tie as tie
 
 pub finite-at-spec : {M : Type 1} → statement M
 unfolding numberAt
-finite-at-spec = tie.close (tie.spec (λ c κs. search needs) (λ c. rw (← c .u64-at .ensures, finite-pattern (c .u64-at .result))))
+finite-at-spec =
+    tie.close
+    (tie.spec
+    (λ c κs. search needs)
+    (λ c. rw (← c .u64-at .ensures, finite-pattern (c .u64-at .result))))

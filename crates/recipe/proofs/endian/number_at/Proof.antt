@@ -1,4 +1,4 @@
--- What is returned follows from the tests and the calls on the way, in their order. Assumes nothing.
+-- Drafted (tools/draft): opens Endian.numberAt. By the tests and the calls, in order. Assumes nothing.
 use borrow.Author.Needs.{needs}
 use Rattle.recipe.specs.Endian.{numberAt}
 use Rattle.recipe.proofs.endian.number_at.Statement.{statement}
@@ -11,4 +11,4 @@ number-at-spec =
     (tie.spec
     (λ c κs. search needs)
     (λ c κs. tt)
-    (λ c. rw (← c .before .u64-at .ensures, ← c .from-bits .ensures)))
+    (λ c. let c1 = c .before in rw (← c1 .u64-at .ensures, ← c .from-bits .ensures)))

@@ -18,5 +18,11 @@ u16-at-spec =
     (λ c. search needs)
     (λ c. let at = c .before .before .args .at in omega (arith, c .shared-slice-known2 .given (at + 1)))
     (λ c. let at = c .before .before .args .at in omega (arith, c .shared-slice-known2 .given (at + 1)))
-    (λ c. let at = c .before .before .args .at in omega (arith, c .shared-slice-known2 .given at, c .shared-slice-known2 .given (at + 1)))
-    (λ c. let at = c .before .before .args .at in (refl, omega (arith, c .shared-slice-known2 .given at, c .shared-slice-known2 .given (at + 1)))))
+    (λ c.
+    let at = c .before .before .args .at in
+    let byte = c .shared-slice-known2 .given in
+    omega (arith, byte at, byte (at + 1)))
+    (λ c.
+    let at = c .before .before .args .at in
+    let byte = c .shared-slice-known2 .given in
+    (refl, omega (arith, byte at, byte (at + 1)))))

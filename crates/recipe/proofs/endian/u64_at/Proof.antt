@@ -1,4 +1,4 @@
--- What is returned follows from the tests and the calls on the way, in their order. Assumes nothing.
+-- Drafted (tools/draft): opens Endian.u64At. By the tests and the calls, in order. Assumes nothing.
 use borrow.Author.Needs.{needs}
 use Rattle.recipe.specs.Endian.{u64At}
 use Rattle.recipe.proofs.endian.u64_at.Statement.{statement}

@@ -23,14 +23,18 @@ unfolding coefficientsAt numbersAt decimal ofBits
 loop-holds c = (zero-le, refl)
 
 loop-again : tie.Need-loop-again Inv-loop μ-loop
-loop-again c = (omega arith, rw (c .number-at .ensures) (term-more _ _ _ _ (omega arith) (c .before .before .loop .inv .1)))
+loop-again c =
+    let l = c .before .before in
+    (omega arith, rw (c .number-at .ensures) (term-more _ _ _ _ (omega arith) (l .loop .inv .1)))
 
 returns : tie.Need-returns Inv-loop μ-loop
 unfolding coefficientsAt
 returns c =
-    let l = c .before in let a = l .before .before .args in
+    let l = c .before in
+    let a = l .before .before .args in
     let e : l .loop .i ≡ a .count = omega arith in
-    ap (λ (v : List Float). record { count = a .count; values = v }) (l .loop .inv .1 ∙ ap (λ (n : ℕ). coefficientsAt (a .s .now) (a .at) n .values) e)
+    let all = l .loop .inv .1 ∙ ap (λ (n : ℕ). coefficientsAt (a .s .now) (a .at) n .values) e in
+    ap (λ (v : List Float). record { count = a .count; values = v }) all
 
 pub coefficients-at-spec : {M : Type 1} → statement M
 coefficients-at-spec =

@@ -1,4 +1,4 @@
--- What is returned follows from the tests and the calls on the way, in their order. Assumes nothing.
+-- The tests of the rule on the room behind the place, which keep every sum within the slice. Assumes nothing.
 use Prim.Native.Nat.{_+_, _≤_}
 use native.Mathlib.Omega.{arith}
 use borrow.Author.Needs.{needs}
@@ -8,6 +8,10 @@ use Rattle.recipe.specs.Record.{shapedAt}
 use Rattle.recipe.proofs.Shapes.{room-test}
 use Rattle.recipe.proofs.record.is_shaped.Statement.{statement}
 use Rattle.recipe.proofs.record.is_shaped.Tie as tie
+
+-- the start, from where there is room for length and kind
+abbrev start : tie.Else2 → tie.Start
+start c = c .before .before .before
 
 pub is-shaped-spec : {M : Type 1} → statement M
 unfolding shapedAt
@@ -23,6 +27,15 @@ is-shaped-spec =
     (λ c. search needs)
     (λ c κs. tt)
     (λ c.
-    let c1 = c .before in let c2 = c1 .before in let a = c2 .before .before .before .before .args in
-    let n = length (a .s .now) in let h : a .at ≤ n = omega arith in
-    rw (le-leb (a .at + 4) n (omega arith), ← c2 .u16-at .ensures .0, ← c1 .u16-at2 .ensures .0, ← c .length-fits .ensures, room-test n (a .at) _ h)))
+    let kind = c .before in
+    let len = kind .before in
+    let a = start (len .before) .args in
+    let n = length (a .s .now) in
+    let h : a .at ≤ n = omega arith in
+    rw (
+      le-leb (a .at + 4) n (omega arith),
+      ← len .u16-at .ensures .0,
+      ← kind .u16-at2 .ensures .0,
+      ← c .length-fits .ensures,
+      room-test n (a .at) _ h,
+    )))

@@ -1,10 +1,22 @@
--- What is returned follows from the tests and the calls on the way, in their order. Assumes nothing.
+-- The fields of the rule, each read within the record by what its shape tells. Assumes nothing.
+use Prim.Native.Nat.{_%_}
 use mathlib.Core.Path.{refl}
 use native.Mathlib.Omega.{arith}
+use lib.ListN.{length}
 use Rattle.recipe.specs.Record.{opticAt}
-use Rattle.recipe.proofs.Shapes.{shape}
+use Rattle.recipe.proofs.Shapes.{Shape, shape}
 use Rattle.recipe.proofs.record.optic_at.Statement.{statement}
 use Rattle.recipe.proofs.record.optic_at.Tie as tie
+
+-- where length and kind are read, from where the semi-diameter is
+abbrev read : tie.After-slot2 → tie.After-u16-at2
+read c = c .before .before .before
+
+-- what the shape tells of the places behind them
+places : (r : tie.After-u16-at2) →
+    let a = r .before .before .before .args in
+    Shape (length (a .s .now)) (a .at) (r .u16-at2 .result % 256) (r .before .u16-at .result)
+places r = shape _ _ (r .before .before .before .pre) (r .before .u16-at .ensures .0) (r .u16-at2 .ensures .0)
 
 pub optic-at-spec : {M : Type 1} → statement M
 unfolding opticAt
@@ -14,14 +26,26 @@ optic-at-spec =
     (λ c κs. let f = shape _ _ (c .before .pre) refl refl in omega arith)
     (λ c. let f = shape _ _ (c .before .before .pre) refl refl in omega arith)
     (λ c κs. let f = shape _ _ (c .before .before .pre) refl refl in omega arith)
-    (λ c κs. let f = shape _ _ (c .before .before .before .pre) (c .before .u16-at .ensures .0) (c .u16-at2 .ensures .0) in omega arith)
+    (λ c κs. let f = places c in omega arith)
     (λ c κs. tt)
-    (λ c κs. let e = c .before .before in let f = shape _ _ (e .before .before .before .pre) (e .before .u16-at .ensures .0) (e .u16-at2 .ensures .0) in omega arith)
-    (λ c κs. let e = c .before .before .before in let f = shape _ _ (e .before .before .before .pre) (e .before .u16-at .ensures .0) (e .u16-at2 .ensures .0) in omega arith)
-    (λ c. let e = c .before .before .before .before in let f = shape _ _ (e .before .before .before .pre) (e .before .u16-at .ensures .0) (e .u16-at2 .ensures .0) in omega arith)
-    (λ c κs. let e = c .before .before .before .before in let f = shape _ _ (e .before .before .before .pre) (e .before .u16-at .ensures .0) (e .u16-at2 .ensures .0) in omega arith)
-    (λ c κs. let e = c .before .before .before .before .before in let f = shape _ _ (e .before .before .before .pre) (e .before .u16-at .ensures .0) (e .u16-at2 .ensures .0) in omega arith)
-    (λ c κs. let e = c .before .before .before .before .before .before in let f = shape _ _ (e .before .before .before .pre) (e .before .u16-at .ensures .0) (e .u16-at2 .ensures .0) in omega arith)
+    (λ c κs. let f = places (c .before .before) in omega arith)
+    (λ c κs. let f = places (read c) in omega arith)
+    (λ c. let f = places (read (c .before)) in omega arith)
+    (λ c κs. let f = places (read (c .before)) in omega arith)
+    (λ c κs. let f = places (read (c .before .before)) in omega arith)
+    (λ c κs. let f = places (read (c .before .before .before)) in omega arith)
     (λ c.
-    let c1 = c .before in let c2 = c1 .before in let c3 = c2 .before in let c4 = c3 .before in let c5 = c4 .before in let c6 = c5 .before in let c7 = c6 .before in
-    rw (← c7 .before .u16-at .ensures .0, ← c7 .u16-at2 .ensures .0, ← c6 .slot .ensures, ← c5 .semi-slot .ensures, ← c4 .slot2 .ensures, ← c3 .kind-at .ensures, ← c2 .coefficient-count .ensures, ← c1 .coefficients-at .ensures, ← c .slot3 .ensures)))
+    let kind = c .before .before .before in
+    let semi = kind .before in
+    let r = read semi in
+    rw (
+      ← r .before .u16-at .ensures .0,
+      ← r .u16-at2 .ensures .0,
+      ← semi .before .before .slot .ensures,
+      ← semi .before .semi-slot .ensures,
+      ← semi .slot2 .ensures,
+      ← kind .kind-at .ensures,
+      ← c .before .before .coefficient-count .ensures,
+      ← c .before .coefficients-at .ensures,
+      ← c .slot3 .ensures,
+    )))

@@ -1,10 +1,14 @@
--- What is returned follows from the tests and the calls on the way, in their order. Assumes nothing.
-use mathlib.Core.Path.{refl, sym, _∙_}
+-- A record that has a shape is read within it; without one there is none. Assumes nothing.
+use mathlib.Core.Bool.{true}
+use mathlib.Core.Path.{_≡_, refl, sym, _∙_}
 use native.Mathlib.Omega.{arith}
-use Rattle.recipe.specs.Record.{readAt}
+use Rattle.recipe.specs.Record.{shapedAt, readAt}
 use Rattle.recipe.proofs.Shapes.{shape}
 use Rattle.recipe.proofs.record.read_record.Statement.{statement}
 use Rattle.recipe.proofs.record.read_record.Tie as tie
+
+shaped : (c : tie.Then1) → let a = c .before .before .before .args in shapedAt (a .s .now) (a .at) ≡ true
+shaped c = sym (c .before .is-shaped .ensures) ∙ c .if1 .taken
 
 pub read-record-spec : {M : Type 1} → statement M
 unfolding readAt
@@ -12,12 +16,10 @@ read-record-spec =
     tie.close
     (tie.spec
     (λ c κs. tt)
-    (λ c κs. let f = shape _ _ (sym (c .before .is-shaped .ensures) ∙ c .if1 .taken) refl refl in omega arith)
-    (λ c. let c1 = c .before in let f = shape _ _ (sym (c1 .before .is-shaped .ensures) ∙ c1 .if1 .taken) (c .u16-at .ensures .0) refl in omega arith)
-    (λ c. let c1 = c .before in let f = shape _ _ (sym (c1 .before .is-shaped .ensures) ∙ c1 .if1 .taken) (c .u16-at .ensures .0) refl in omega arith)
-    (λ c κs. let c1 = c .before in sym (c1 .before .is-shaped .ensures) ∙ c1 .if1 .taken)
-    (λ c.
-    let c1 = c .before in let c2 = c1 .before in
-    rw (← c2 .before .is-shaped .ensures, c2 .if1 .taken, ← c1 .u16-at .ensures .0, ← c .optic-at .ensures))
+    (λ c κs. let f = shape _ _ (shaped c) refl refl in omega arith)
+    (λ c. let f = shape _ _ (shaped (c .before)) (c .u16-at .ensures .0) refl in omega arith)
+    (λ c. let f = shape _ _ (shaped (c .before)) (c .u16-at .ensures .0) refl in omega arith)
+    (λ c κs. shaped (c .before))
+    (λ c. let len = c .before in rw (shaped (len .before), ← len .u16-at .ensures .0, ← c .optic-at .ensures))
     (λ c κs. tt)
-    (λ c. let c1 = c .before in rw (← c1 .before .is-shaped .ensures, c1 .if1 .left, ← c .no-optic .ensures)))
+    (λ c. let none = c .before in rw (← none .before .is-shaped .ensures, none .if1 .left, ← c .no-optic .ensures)))

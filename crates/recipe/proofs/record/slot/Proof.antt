@@ -1,4 +1,4 @@
--- What is returned follows from the tests and the calls on the way, in their order. Assumes nothing.
+-- Drafted (tools/draft): opens Record.slotAt. By the tests and the calls, in order. Assumes nothing.
 use borrow.Author.Needs.{needs}
 use Rattle.recipe.specs.Record.{slotAt}
 use Rattle.recipe.proofs.record.slot.Statement.{statement}
@@ -13,4 +13,4 @@ slot-spec =
     (λ c. search needs)
     (λ c. search needs)
     (λ c κs. search needs)
-    (λ c. c .number-at .ensures))
+    (λ c. rw (← c .number-at .ensures)))

@@ -1,14 +1,69 @@
--- What is returned follows from the tests and the calls on the way, in their order. Assumes nothing.
-use mathlib.Core.Path.{refl, sym, _∙_}
+-- The tests of the rule in their order, on numbers that its shape has within the record. Assumes nothing.
+use Prim.Native.Nat.{_+_, _/_, _%_}
+use mathlib.Core.Bool.{true, false, not}
+use mathlib.Core.Path.{_≡_, refl, sym, _∙_}
 use native.Mathlib.Omega.{arith}
 use borrow.Author.Tests.{not-false}
 use lib.Ieee.{ofBits}
-use Rattle.numbers.specs.Arithmetic.{decimal}
-use Rattle.recipe.specs.Record.{opticAt, recordAt}
-use Rattle.recipe.specs.Scan.{seenOf}
-use Rattle.recipe.proofs.Shapes.{shape}
+use lib.ListN.{length}
+use Rattle.numbers.specs.Arithmetic.{_<₆₄_, _≤₆₄_, decimal, 0f}
+use Rattle.surfaces.specs.Types.{everyFinite}
+use Rattle.recipe.specs.Endian.{numbersAt}
+use Rattle.recipe.specs.Record.{lengthAt, kindAt, slotAt, shapedAt, semiSlot, opticAt, recordAt}
+use Rattle.recipe.specs.Parts.{seenOf}
+use Rattle.recipe.proofs.Shapes.{Shape, shape}
 use Rattle.recipe.proofs.scan.look.Statement.{statement}
 use Rattle.recipe.proofs.scan.look.Tie as tie
+
+-- the start, from where the record has a shape
+abbrev start : tie.Else1 → tie.Start
+start c = c .before .before .before
+
+-- where length and kind are read, from where the numbers are finite
+abbrev read : tie.Else2 → tie.After-u16-at2
+read c = c .before .before
+
+-- where the record has a shape, from there
+abbrev whole : tie.Else2 → tie.Else1
+whole c = read c .before .before
+
+-- where the numbers are finite, from where the semi-diameter is not negative
+abbrev finite : tie.Else3 → tie.Else2
+finite c = c .before .before .before
+
+-- where it is not, from where the index is above 0
+abbrev semi : tie.Else4 → tie.Else3
+semi c = c .before .before
+
+-- the tests that are passed
+shaped : (c : tie.Else1) → shapedAt (start c .args .s .now) (start c .args .at) ≡ true
+shaped c = sym (c .before .is-shaped .ensures) ∙ not-false _ (c .if1 .left)
+
+finite-is : (c : tie.Else2) →
+    let a = start (whole c) .args in
+    not (everyFinite (numbersAt (a .s .now) (a .at + 4) (lengthAt (a .s .now) (a .at) / 8))) ≡ false
+finite-is c = rw (← read c .before .u16-at .ensures .0, ← c .before .numbers-finite .ensures) (c .if2 .left)
+
+semi-is : (c : tie.Else3) →
+    let a = start (whole (finite c)) .args in
+    (slotAt (a .s .now) (a .at) (semiSlot (kindAt (a .s .now) (a .at) % 256)) <₆₄ 0f) ≡ false
+unfolding decimal ofBits
+semi-is c =
+    let r = read (finite c) in
+    let slot = c .before in
+    rw (← r .u16-at2 .ensures .0, ← slot .before .semi-slot .ensures, ← slot .slot .ensures) (c .if3 .left)
+
+index-is : (c : tie.Else4) →
+    let a = start (whole (finite (semi c))) .args in
+    (slotAt (a .s .now) (a .at) 1 ≤₆₄ 0f) ≡ false
+unfolding decimal ofBits
+index-is c = rw (← c .before .slot2 .ensures) (c .if4 .left)
+
+-- what the shape tells of the places behind length and kind
+places : (r : tie.After-u16-at2) →
+    let a = start (r .before .before) .args in
+    Shape (length (a .s .now)) (a .at) (r .u16-at2 .result % 256) (r .before .u16-at .result)
+places r = shape _ _ (shaped (r .before .before)) (r .before .u16-at .ensures .0) (r .u16-at2 .ensures .0)
 
 pub look-spec : {M : Type 1} → statement M
 unfolding seenOf recordAt opticAt decimal ofBits
@@ -17,32 +72,63 @@ look-spec =
     (tie.spec
     (λ c κs. tt)
     (λ c κs. tt)
-    (λ c. let c1 = c .before in rw (← c1 .before .is-shaped .ensures, c1 .if1 .taken) (c .unseen .ensures))
-    (λ c κs. let f = shape _ _ (sym (c .before .is-shaped .ensures) ∙ not-false _ (c .if1 .left)) refl refl in omega arith)
-    (λ c. let e = c .before in let f = shape _ _ (sym (e .before .is-shaped .ensures) ∙ not-false _ (e .if1 .left)) (c .u16-at .ensures .0) refl in omega arith)
-    (λ c κs. let e = c .before in let f = shape _ _ (sym (e .before .is-shaped .ensures) ∙ not-false _ (e .if1 .left)) (c .u16-at .ensures .0) refl in omega arith)
-    (λ c. let d = c in let e = d .before .before in let f = shape _ _ (sym (e .before .is-shaped .ensures) ∙ not-false _ (e .if1 .left)) (d .before .u16-at .ensures .0) (d .u16-at2 .ensures .0) in omega arith)
-    (λ c κs. let d = c in let e = d .before .before in let f = shape _ _ (sym (e .before .is-shaped .ensures) ∙ not-false _ (e .if1 .left)) (d .before .u16-at .ensures .0) (d .u16-at2 .ensures .0) in omega arith)
+    (λ c. rw (← c .before .before .is-shaped .ensures, c .before .if1 .taken) (c .unseen .ensures))
+    (λ c κs. let f = shape _ _ (shaped c) refl refl in omega arith)
+    (λ c. let f = shape _ _ (shaped (c .before)) (c .u16-at .ensures .0) refl in omega arith)
+    (λ c κs. let f = shape _ _ (shaped (c .before)) (c .u16-at .ensures .0) refl in omega arith)
+    (λ c. let f = places c in omega arith)
+    (λ c κs. let f = places c in omega arith)
     (λ c κs. tt)
     (λ c.
-    let c1 = c .before in let c2 = c1 .before in let c3 = c2 .before in let c4 = c3 .before in let c5 = c4 .before in
-    rw (← c5 .before .is-shaped .ensures, c5 .if1 .left, ← c4 .u16-at .ensures .0, ← c2 .numbers-finite .ensures, c1 .if2 .taken) (c .unseen2 .ensures))
+    let test = c .before in
+    let len = test .before .before .before in
+    rw (
+      shaped (len .before),
+      ← len .u16-at .ensures .0,
+      ← test .before .numbers-finite .ensures,
+      test .if2 .taken,
+    )
+    (c .unseen2 .ensures))
     (λ c κs. tt)
-    (λ c κs. let d = c .before .before .before in let e = d .before .before in let f = shape _ _ (sym (e .before .is-shaped .ensures) ∙ not-false _ (e .if1 .left)) (d .before .u16-at .ensures .0) (d .u16-at2 .ensures .0) in omega arith)
+    (λ c κs. let f = places (read (c .before)) in omega arith)
     (λ c κs. tt)
-    (λ c κs. tt)
-    (λ c.
-    let c1 = c .before in let c2 = c1 .before in let c3 = c2 .before in let c4 = c3 .before in let c5 = c4 .before in let c6 = c5 .before in let c7 = c6 .before in let c8 = c7 .before in let c9 = c8 .before in
-    rw (← c9 .before .is-shaped .ensures, c9 .if1 .left, ← c8 .u16-at .ensures .0, ← c7 .u16-at2 .ensures .0, ← c6 .numbers-finite .ensures, c5 .if2 .left, ← c4 .semi-slot .ensures, ← c3 .slot .ensures, c2 .if3 .taken, ← c1 .negative-semi .ensures) (c .unseen3 .ensures))
-    (λ c κs. let d = c .before .before .before .before .before in let e = d .before .before in let f = shape _ _ (sym (e .before .is-shaped .ensures) ∙ not-false _ (e .if1 .left)) (d .before .u16-at .ensures .0) (d .u16-at2 .ensures .0) in omega arith)
-    (λ c κs. tt)
-    (λ c.
-    let c1 = c .before in let c2 = c1 .before in let c3 = c2 .before in let c4 = c3 .before in let c5 = c4 .before in let c6 = c5 .before in let c7 = c6 .before in let c8 = c7 .before in let c9 = c8 .before in let c10 = c9 .before in
-    rw (← c10 .before .is-shaped .ensures, c10 .if1 .left, ← c9 .u16-at .ensures .0, ← c8 .u16-at2 .ensures .0, ← c7 .numbers-finite .ensures, c6 .if2 .left, ← c5 .semi-slot .ensures, ← c4 .slot .ensures, c3 .if3 .left, ← c2 .slot2 .ensures, c1 .if4 .taken) (c .unseen4 .ensures))
-    (λ c. let d = c .before .before .before .before .before .before .before in let e = d .before .before in let f = shape _ _ (sym (e .before .is-shaped .ensures) ∙ not-false _ (e .if1 .left)) (d .before .u16-at .ensures .0) (d .u16-at2 .ensures .0) in omega arith)
-    (λ c. let d = c .before .before .before .before .before .before .before in let e = d .before .before in let f = shape _ _ (sym (e .before .is-shaped .ensures) ∙ not-false _ (e .if1 .left)) (d .before .u16-at .ensures .0) (d .u16-at2 .ensures .0) in omega arith)
-    (λ c κs. let d = c .before .before .before .before .before .before .before in let e = d .before .before in let f = shape _ _ (sym (e .before .is-shaped .ensures) ∙ not-false _ (e .if1 .left)) (d .before .u16-at .ensures .0) (d .u16-at2 .ensures .0) in omega arith)
     (λ c κs. tt)
     (λ c.
-    let c1 = c .before in let c2 = c1 .before in let c3 = c2 .before in let c4 = c3 .before in let c5 = c4 .before in let c6 = c5 .before in let c7 = c6 .before in let c8 = c7 .before in let c9 = c8 .before in let c10 = c9 .before in let c11 = c10 .before in
-    rw (← c11 .before .is-shaped .ensures, c11 .if1 .left, ← c10 .u16-at .ensures .0, ← c9 .u16-at2 .ensures .0, ← c8 .numbers-finite .ensures, c7 .if2 .left, ← c6 .semi-slot .ensures, ← c5 .slot .ensures, c4 .if3 .left, ← c3 .slot2 .ensures, c2 .if4 .left, ← c1 .kind-at .ensures, ← c .limit .ensures)))
+    let test = c .before .before in
+    let slot = test .before in
+    let n = slot .before .before in
+    rw (
+      shaped (whole n),
+      finite-is n,
+      ← read n .u16-at2 .ensures .0,
+      ← slot .before .semi-slot .ensures,
+      ← slot .slot .ensures,
+      test .if3 .taken,
+      ← c .before .negative-semi .ensures,
+    )
+    (c .unseen3 .ensures))
+    (λ c κs. let f = places (read (finite c)) in omega arith)
+    (λ c κs. tt)
+    (λ c.
+    let index = c .before .before in
+    let s = index .before in
+    let n = finite s in
+    rw (shaped (whole n), finite-is n, semi-is s, ← index .slot2 .ensures, c .before .if4 .taken) (c .unseen4 .ensures))
+    (λ c. let f = places (read (finite (semi c))) in omega arith)
+    (λ c. let f = places (read (finite (semi c))) in omega arith)
+    (λ c κs. let f = places (read (finite (semi c))) in omega arith)
+    (λ c κs. tt)
+    (λ c.
+    let good = c .before .before in
+    let s = semi good in
+    let n = finite s in
+    rw (
+      shaped (whole n),
+      finite-is n,
+      semi-is s,
+      index-is good,
+      ← read n .before .u16-at .ensures .0,
+      ← read n .u16-at2 .ensures .0,
+      ← c .before .kind-at .ensures,
+      ← c .limit .ensures,
+    )))

@@ -1,4 +1,4 @@
--- What is returned follows from the tests and the calls on the way, in their order. Assumes nothing.
+-- Drafted (tools/draft): opens Source.isSource; tests by leb. By the tests and the calls, in order. Assumes nothing.
 use borrow.Author.Needs.{needs}
 use borrow.Author.Tests.{le-leb, lt-leb}
 use Rattle.recipe.specs.Source.{isSource}
@@ -14,5 +14,5 @@ is-source-spec =
     (λ c κs. search needs)
     (λ c κs. search needs)
     (λ c.
-    let c1 = c .before in
-    rw (le-leb _ _ (c1 .before .if1 .left), ← c1 .u16-at .ensures .0, ← c .u16-at2 .ensures .0)))
+    let c1 = c .before in let c2 = c1 .before in
+    rw (le-leb _ _ (c2 .if1 .left), ← c1 .u16-at .ensures .0, ← c .u16-at2 .ensures .0)))

@@ -1,4 +1,4 @@
--- What is returned follows from the tests and the calls on the way, in their order. Assumes nothing.
+-- Drafted (tools/draft): opens Source.vectorAt. By the tests and the calls, in order. Assumes nothing.
 use borrow.Author.Needs.{needs}
 use Rattle.recipe.specs.Source.{vectorAt}
 use Rattle.recipe.proofs.source.vector.Statement.{statement}
@@ -14,4 +14,6 @@ vector-spec =
     (λ c κs. search needs)
     (λ c. search needs)
     (λ c κs. search needs)
-    (λ c. let c1 = c .before in rw (← c1 .before .slot .ensures, ← c1 .slot2 .ensures, ← c .slot3 .ensures)))
+    (λ c.
+    let c1 = c .before in let c2 = c1 .before in
+    rw (← c2 .slot .ensures, ← c1 .slot2 .ensures, ← c .slot3 .ensures)))

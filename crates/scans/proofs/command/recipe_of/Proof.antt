@@ -1,4 +1,4 @@
--- `scans::command::recipe_of` is safe and ends: the tests before the loop keep its index within the digits and the bytes. Assumes nothing.
+-- The tests before the loop keep its index within the digits and the bytes. Assumes nothing.
 use Prim.Native.Nat.{_-_}
 use borrow.Author.Needs.{needs}
 use Rattle.scans.proofs.command.recipe_of.Statement.{statement}

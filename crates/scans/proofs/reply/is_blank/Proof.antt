@@ -1,4 +1,4 @@
--- `scans::reply::is_blank` is safe and ends: the measure is how many numbers are left. Assumes nothing.
+-- The measure is how many numbers are left. Assumes nothing.
 use Prim.Native.Nat.{_-_}
 use lib.ListN.{length}
 use borrow.Author.Needs.{needs}

@@ -1,4 +1,4 @@
--- `scans::reply::print_results` is safe and ends: the loop's test keeps each record within the results. Assumes nothing.
+-- The loop's test keeps each record within the results. Assumes nothing.
 use Prim.Native.Nat.{_-_}
 use borrow.Author.Needs.{needs}
 use Rattle.scans.proofs.reply.print_results.Statement.{statement}

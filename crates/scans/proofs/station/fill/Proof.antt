@@ -1,4 +1,4 @@
--- `scans::station::fill` is safe and ends: the measure is how many numbers are left. Assumes nothing.
+-- The measure is how many numbers are left. Assumes nothing.
 use Prim.Native.Nat.{_-_}
 use mathlib.Core.Path.{_≡_}
 use lib.ListN.{length, length-set}

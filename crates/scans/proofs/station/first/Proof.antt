@@ -1,4 +1,4 @@
--- `scans::station::first` is safe: there are as many numbers as it lends. Assumes nothing.
+-- There are as many numbers as it lends. Assumes nothing.
 use mathlib.Core.Path.{sym}
 use lib.Seq.{length-take-le}
 use borrow.Author.Needs.{needs}

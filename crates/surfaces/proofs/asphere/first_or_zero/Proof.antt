@@ -9,7 +9,9 @@ use Rattle.surfaces.proofs.asphere.first_or_zero.Statement.{statement}
 use Rattle.surfaces.proofs.asphere.first_or_zero.Tie as tie
 
 returns-2 : tie.Need-returns-2
-returns-2 c = sym (first-there (c .before .before .args .t1 .values) (c .before .before .args .t1 .count) (omega arith) (search needs))
+returns-2 c =
+    sym (first-there (c .before .before .args .t1 .values) (c .before .before .args .t1 .count) (omega arith)
+    (search needs))
 
 pub first-or-zero-spec : {M : Type 1} → statement M
 unfolding decimal ofBits

@@ -1,4 +1,4 @@
--- What is returned follows from the tests and the calls on the way, in their order. Assumes nothing.
+-- Drafted (tools/draft): opens Biconic.circleSlopes. By the tests and the calls, in order. Assumes nothing.
 use lib.Ieee.{ofBits}
 use Rattle.numbers.specs.Arithmetic.{decimal}
 use Rattle.surfaces.specs.Biconic.{circleSlopes}
@@ -18,4 +18,11 @@ circle-slopes-spec =
     (λ c κs. tt)
     (λ c.
     let c1 = c .before in let c2 = c1 .before in let c3 = c2 .before in let c4 = c3 .before in let c5 = c4 .before in
-    rw (c5 .if1 .left, ← c4 .slope-radicand .ensures, ← c3 .sqrt .ensures, ← c2 .base-curve-slope .ensures, ← c1 .sqrt2 .ensures, ← c .circle-slopes-at .ensures)))
+    rw (
+      c5 .if1 .left,
+      ← c4 .slope-radicand .ensures,
+      ← c3 .sqrt .ensures,
+      ← c2 .base-curve-slope .ensures,
+      ← c1 .sqrt2 .ensures,
+      ← c .circle-slopes-at .ensures,
+    )))

@@ -1,7 +1,8 @@
--- What is returned follows from the tests and the calls on the way, in their order. Assumes nothing.
+-- Drafted (tools/draft): opens Biconic.normalOf; refused by Refusals.never-done.
+-- By the tests and the calls, in order. Assumes nothing.
 use borrow.Author.Needs.{needs}
-use Rattle.surfaces.proofs.Refusals.{never-done}
 use Rattle.surfaces.specs.Biconic.{normalOf}
+use Rattle.surfaces.proofs.Refusals.{never-done}
 use Rattle.surfaces.proofs.biconic.normal_of.Statement.{statement}
 use Rattle.surfaces.proofs.biconic.normal_of.Tie as tie
 
@@ -17,6 +18,4 @@ normal-of-spec =
     (λ c.
     let c1 = c .before in let c3 = c1 .before .before in
     rw (c3 .m .given .1, ← c1 .length-of .ensures, ← c .facing .ensures))
-    (λ c.
-    let c1 = c .before in
-    rw (c1 .m2 .given .1, never-done)))
+    (λ c. let c1 = c .before in rw (c1 .m2 .given .1, never-done)))

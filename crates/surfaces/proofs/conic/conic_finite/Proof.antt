@@ -1,4 +1,4 @@
--- What is returned follows from the tests and the calls on the way, in their order. Assumes nothing.
+-- Drafted (tools/draft): opens Conic.conicFinite. By the tests and the calls, in order. Assumes nothing.
 use Rattle.surfaces.specs.Conic.{conicFinite}
 use Rattle.surfaces.proofs.conic.conic_finite.Statement.{statement}
 use Rattle.surfaces.proofs.conic.conic_finite.Tie as tie

@@ -1,4 +1,4 @@
--- What is returned follows from the tests and the calls on the way, in their order. Assumes nothing.
+-- Drafted (tools/draft): opens Conic.conicNormalAnswer. By the tests and the calls, in order. Assumes nothing.
 use Rattle.surfaces.specs.Conic.{conicNormalAnswer}
 use Rattle.surfaces.proofs.conic.conic_normal.Statement.{statement}
 use Rattle.surfaces.proofs.conic.conic_normal.Tie as tie
@@ -17,4 +17,10 @@ conic-normal-spec =
     (λ c κs. tt)
     (λ c.
     let c1 = c .before in let c2 = c1 .before in let c3 = c2 .before in let c4 = c3 .before in
-    rw (← c4 .all-finite .ensures, ← c3 .conic-finite .ensures, c2 .if1 .left, ← c1 .raw-normal .ensures, ← c .checked-direction .ensures)))
+    rw (
+      ← c4 .all-finite .ensures,
+      ← c3 .conic-finite .ensures,
+      c2 .if1 .left,
+      ← c1 .raw-conic-normal .ensures,
+      ← c .checked-direction .ensures,
+    )))

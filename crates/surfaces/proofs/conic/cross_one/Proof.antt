@@ -1,13 +1,11 @@
--- What is returned follows from the tests and the calls on the way, in their order. Assumes nothing.
-use lib.Ieee.{ofBits}
-use Rattle.numbers.specs.Arithmetic.{decimal}
+-- Drafted (tools/draft): opens Conic.firstOn, Types.distance. By the tests and the calls, in order. Assumes nothing.
 use Rattle.surfaces.specs.Conic.{firstOn}
 use Rattle.surfaces.specs.Types.{distance}
 use Rattle.surfaces.proofs.conic.cross_one.Statement.{statement}
 use Rattle.surfaces.proofs.conic.cross_one.Tie as tie
 
 pub cross-one-spec : {M : Type 1} → statement M
-unfolding firstOn distance decimal ofBits
+unfolding firstOn distance
 cross-one-spec =
     tie.close
     (tie.spec

@@ -1,4 +1,4 @@
--- What is returned follows from the tests and the calls on the way, in their order. Assumes nothing.
+-- Drafted (tools/draft): opens Conic.firstOn, Conic.ascending. By the tests and the calls, in order. Assumes nothing.
 use borrow.Author.Needs.{needs}
 use Rattle.surfaces.specs.Conic.{firstOn, ascending}
 use Rattle.surfaces.proofs.conic.cross_roots.Statement.{statement}
@@ -31,6 +31,4 @@ cross-roots-spec =
     (λ c.
     let c2 = c .before .before in let c4 = c2 .before .before in
     rw (c4 .enum-told2 .given .1, c2 .y2 .given .1, ← c .cross-one2 .ensures))
-    (λ c.
-    let c2 = c .before .before in
-    rw (c2 .enum-told2 .given .1, c .enum-told3 .given .1)))
+    (λ c. let c2 = c .before .before in rw (c2 .enum-told2 .given .1, c .enum-told3 .given .1)))

@@ -1,4 +1,4 @@
--- What is returned follows from the tests and the calls on the way, in their order. Assumes nothing.
+-- Drafted (tools/draft): opens Conic.curvatureOf. By the tests and the calls, in order. Assumes nothing.
 use lib.Ieee.{ofBits}
 use Rattle.numbers.specs.Arithmetic.{decimal}
 use Rattle.surfaces.specs.Conic.{curvatureOf}
@@ -11,9 +11,5 @@ curvature-of-spec =
     tie.close
     (tie.spec
     (λ c κs. tt)
-    (λ c.
-    let c1 = c .before in
-    rw (← c1 .is-infinite .ensures, c .if1 .taken))
-    (λ c.
-    let c1 = c .before in
-    rw (← c1 .is-infinite .ensures, c .if1 .left)))
+    (λ c. let c1 = c .before in rw (← c1 .is-infinite .ensures, c .if1 .taken))
+    (λ c. let c1 = c .before in rw (← c1 .is-infinite .ensures, c .if1 .left)))

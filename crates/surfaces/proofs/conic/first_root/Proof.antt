@@ -1,4 +1,4 @@
--- What is returned follows from the tests and the calls on the way, in their order. Assumes nothing.
+-- Drafted (tools/draft): opens Conic.firstRoot. By the tests and the calls, in order. Assumes nothing.
 use lib.Ieee.{ofBits}
 use Rattle.numbers.specs.Arithmetic.{decimal}
 use Rattle.surfaces.specs.Conic.{firstRoot}
@@ -12,9 +12,5 @@ first-root-spec =
     (tie.spec
     (λ c κs. tt)
     (λ c κs. tt)
-    (λ c.
-    let c1 = c .before in let c2 = c1 .before in
-    rw (← c2 .abs .ensures, c1 .if1 .taken, ← c .keep .ensures))
-    (λ c.
-    let c1 = c .before in
-    rw (← c1 .abs .ensures, c .if1 .left)))
+    (λ c. let c1 = c .before in let c2 = c1 .before in rw (← c2 .abs .ensures, c1 .if1 .taken, ← c .keep .ensures))
+    (λ c. let c1 = c .before in rw (← c1 .abs .ensures, c .if1 .left)))

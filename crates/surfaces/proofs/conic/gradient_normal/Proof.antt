@@ -1,4 +1,4 @@
--- What is returned follows from the tests and the calls on the way, in their order. Assumes nothing.
+-- Drafted (tools/draft): opens Conic.gradientNormal. By the tests and the calls, in order. Assumes nothing.
 use lib.Ieee.{ofBits}
 use Rattle.numbers.specs.Arithmetic.{decimal}
 use Rattle.surfaces.specs.Conic.{gradientNormal}
@@ -19,5 +19,13 @@ gradient-normal-spec =
     (λ c κs. tt)
     (λ c κs. tt)
     (λ c.
-    let c1 = c .before in let c2 = c1 .before in let c3 = c2 .before in let c4 = c3 .before in let c9 = c4 .before .before .before .before .before in
-    rw (c9 .if1 .left, ← c4 .dot .ensures, ← c3 .is-finite .ensures, c2 .if2 .left, ← c1 .sqrt .ensures, ← c .over .ensures)))
+    let c1 = c .before in let c2 = c1 .before in let c3 = c2 .before in let c4 = c3 .before in
+    let c9 = c4 .before .before .before .before .before in
+    rw (
+      c9 .if1 .left,
+      ← c4 .dot .ensures,
+      ← c3 .is-finite .ensures,
+      c2 .if2 .left,
+      ← c1 .sqrt .ensures,
+      ← c .over .ensures,
+    )))

@@ -1,12 +1,12 @@
--- What is returned follows from the tests and the calls on the way, in their order. Assumes nothing.
+-- Drafted (tools/draft): opens Conic.conicMeetAnswer. By the tests and the calls, in order. Assumes nothing.
 use lib.Ieee.{ofBits}
 use Rattle.numbers.specs.Arithmetic.{decimal}
-use Rattle.surfaces.specs.Conic.{meetAnswer}
+use Rattle.surfaces.specs.Conic.{conicMeetAnswer}
 use Rattle.surfaces.proofs.conic.intersect_conic.Statement.{statement}
 use Rattle.surfaces.proofs.conic.intersect_conic.Tie as tie
 
 pub intersect-conic-spec : {M : Type 1} → statement M
-unfolding meetAnswer decimal ofBits
+unfolding conicMeetAnswer decimal ofBits
 intersect-conic-spec =
     tie.close
     (tie.spec
@@ -21,5 +21,13 @@ intersect-conic-spec =
     (λ c κs. tt)
     (λ c κs. tt)
     (λ c.
-    let c1 = c .before in let c2 = c1 .before in let c4 = c2 .before .before in let c5 = c4 .before in let c6 = c5 .before in
-    rw (← c6 .ray-finite .ensures, ← c5 .conic-finite .ensures, c4 .if1 .left, c2 .if2 .left, ← c1 .raw-meet .ensures, ← c .checked-meet .ensures)))
+    let c1 = c .before in let c2 = c1 .before in let c4 = c2 .before .before in let c5 = c4 .before in
+    let c6 = c5 .before in
+    rw (
+      ← c6 .ray-finite .ensures,
+      ← c5 .conic-finite .ensures,
+      c4 .if1 .left,
+      c2 .if2 .left,
+      ← c1 .raw-intersect-conic .ensures,
+      ← c .checked-meet .ensures,
+    )))

@@ -1,4 +1,4 @@
--- What is returned follows from the tests and the calls on the way, in their order. Assumes nothing.
+-- Drafted (tools/draft): opens Conic.kept. By the tests and the calls, in order. Assumes nothing.
 use lib.Ieee.{ofBits}
 use Rattle.numbers.specs.Arithmetic.{decimal}
 use Rattle.surfaces.specs.Conic.{kept}
@@ -11,7 +11,5 @@ keep-spec =
     tie.close
     (tie.spec
     (λ c κs. tt)
-    (λ c.
-    let c1 = c .before in
-    rw (c1 .if1 .taken, ← c .max .ensures))
+    (λ c. let c1 = c .before in rw (c1 .if1 .taken, ← c .max .ensures))
     (λ c. rw (c .if1 .left)))

@@ -1,4 +1,4 @@
--- What is returned follows from the tests and the calls on the way, in their order. Assumes nothing.
+-- Drafted (tools/draft): opens Conic.normalAt. By the tests and the calls, in order. Assumes nothing.
 use lib.Ieee.{ofBits}
 use Rattle.numbers.specs.Arithmetic.{decimal}
 use Rattle.surfaces.specs.Conic.{normalAt}
@@ -18,4 +18,4 @@ normal-at-spec =
     rw (← c2 .abs .ensures, c1 .if1 .taken, ← c .backwards .ensures))
     (λ c.
     let c1 = c .before in let c2 = c1 .before in
-    rw (← c2 .abs .ensures, c1 .if1 .left, ← c .raw-normal .ensures)))
+    rw (← c2 .abs .ensures, c1 .if1 .left, ← c .raw-conic-normal .ensures)))

@@ -1,4 +1,4 @@
--- What is returned follows from the tests and the calls on the way, in their order. Assumes nothing.
+-- Drafted (tools/draft): opens Conic.secondRoot. By the tests and the calls, in order. Assumes nothing.
 use lib.Ieee.{ofBits}
 use Rattle.numbers.specs.Arithmetic.{decimal}
 use Rattle.surfaces.specs.Conic.{secondRoot}
@@ -16,6 +16,4 @@ second-root-spec =
     (λ c.
     let c1 = c .before in let c2 = c1 .before in let c3 = c2 .before in
     rw (← c3 .abs .ensures, ← c2 .abs2 .ensures, c1 .if1 .taken, ← c .keep .ensures))
-    (λ c.
-    let c1 = c .before in let c2 = c1 .before in
-    rw (← c2 .abs .ensures, ← c1 .abs2 .ensures, c .if1 .left)))
+    (λ c. let c1 = c .before in let c2 = c1 .before in rw (← c2 .abs .ensures, ← c1 .abs2 .ensures, c .if1 .left)))

@@ -1,13 +1,11 @@
--- What is returned follows from the tests and the calls on the way, in their order. Assumes nothing.
+-- Drafted (tools/draft): opens nothing; refused by Refusals.never-done.
+-- By the tests and the calls, in order. Assumes nothing.
 use borrow.Author.Needs.{needs}
 use Rattle.surfaces.proofs.Refusals.{never-done}
-use lib.Ieee.{ofBits}
-use Rattle.numbers.specs.Arithmetic.{decimal}
 use Rattle.surfaces.proofs.refusal.checked_number.Statement.{statement}
 use Rattle.surfaces.proofs.refusal.checked_number.Tie as tie
 
 pub checked-number-spec : {M : Type 1} → statement M
-unfolding decimal ofBits
 checked-number-spec =
     tie.close
     (tie.spec

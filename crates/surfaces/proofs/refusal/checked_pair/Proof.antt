@@ -1,7 +1,8 @@
--- What is returned follows from the tests and the calls on the way, in their order. Assumes nothing.
+-- Drafted (tools/draft): opens Types.bothFinite; refused by Refusals.never-done.
+-- By the tests and the calls, in order. Assumes nothing.
 use borrow.Author.Needs.{needs}
-use Rattle.surfaces.proofs.Refusals.{never-done}
 use Rattle.surfaces.specs.Types.{bothFinite}
+use Rattle.surfaces.proofs.Refusals.{never-done}
 use Rattle.surfaces.proofs.refusal.checked_pair.Statement.{statement}
 use Rattle.surfaces.proofs.refusal.checked_pair.Tie as tie
 

@@ -1,4 +1,4 @@
--- What is returned follows from the tests and the calls on the way, in their order. Assumes nothing.
+-- Drafted (tools/draft): opens Snell.negatedIf. By the tests and the calls, in order. Assumes nothing.
 use Rattle.surfaces.specs.Snell.{negatedIf}
 use Rattle.surfaces.proofs.snell.negated_if.Statement.{statement}
 use Rattle.surfaces.proofs.snell.negated_if.Tie as tie

@@ -1,4 +1,4 @@
--- What is returned follows from the tests and the calls on the way, in their order. Assumes nothing.
+-- Drafted (tools/draft): opens Snell.reflected. By the tests and the calls, in order. Assumes nothing.
 use lib.Ieee.{ofBits}
 use Rattle.numbers.specs.Arithmetic.{decimal}
 use Rattle.surfaces.specs.Snell.{reflected}
@@ -19,12 +19,32 @@ raw-reflect-spec =
     (λ c κs. tt)
     (λ c.
     let c1 = c .before in let c2 = c1 .before in let c3 = c2 .before in let c4 = c3 .before in let c5 = c4 .before in
-    rw (← c5 .all-finite .ensures, ← c4 .all-finite2 .ensures, c3 .if1 .left, ← c2 .dot .ensures, ← c1 .dot2 .ensures, c .if2 .taken))
+    rw (
+      ← c5 .all-finite .ensures,
+      ← c4 .all-finite2 .ensures,
+      c3 .if1 .left,
+      ← c2 .dot .ensures,
+      ← c1 .dot2 .ensures,
+      c .if2 .taken,
+    ))
     (λ c κs. tt)
     (λ c κs. tt)
     (λ c κs. tt)
     (λ c κs. tt)
     (λ c κs. tt)
     (λ c.
-    let c1 = c .before in let c2 = c1 .before in let c3 = c2 .before in let c4 = c3 .before in let c5 = c4 .before in let c6 = c5 .before in let c7 = c6 .before in let c8 = c7 .before in let c9 = c8 .before in let c10 = c9 .before in
-    rw (← c10 .all-finite .ensures, ← c9 .all-finite2 .ensures, c8 .if1 .left, ← c7 .dot .ensures, ← c6 .dot2 .ensures, c5 .if2 .left, ← c4 .sqrt .ensures, ← c3 .over .ensures, ← c2 .sqrt2 .ensures, ← c1 .over2 .ensures, ← c .mirror .ensures)))
+    let c1 = c .before in let c2 = c1 .before in let c3 = c2 .before in let c4 = c3 .before in let c5 = c4 .before in
+    let c6 = c5 .before in let c7 = c6 .before in let c8 = c7 .before in let c9 = c8 .before in let c10 = c9 .before in
+    rw (
+      ← c10 .all-finite .ensures,
+      ← c9 .all-finite2 .ensures,
+      c8 .if1 .left,
+      ← c7 .dot .ensures,
+      ← c6 .dot2 .ensures,
+      c5 .if2 .left,
+      ← c4 .sqrt .ensures,
+      ← c3 .over .ensures,
+      ← c2 .sqrt2 .ensures,
+      ← c1 .over2 .ensures,
+      ← c .mirror .ensures,
+    )))

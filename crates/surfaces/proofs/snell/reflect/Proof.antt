@@ -1,4 +1,4 @@
--- What is returned follows from the tests and the calls on the way, in their order. Assumes nothing.
+-- Drafted (tools/draft): opens Snell.reflectAnswer. By the tests and the calls, in order. Assumes nothing.
 use Rattle.surfaces.specs.Snell.{reflectAnswer}
 use Rattle.surfaces.proofs.snell.reflect.Statement.{statement}
 use Rattle.surfaces.proofs.snell.reflect.Tie as tie
@@ -10,6 +10,4 @@ reflect-spec =
     (tie.spec
     (λ c κs. tt)
     (λ c κs. tt)
-    (λ c.
-    let c1 = c .before in
-    rw (← c1 .raw-reflect .ensures, ← c .checked-direction .ensures)))
+    (λ c. let c1 = c .before in rw (← c1 .raw-reflect .ensures, ← c .checked-direction .ensures)))

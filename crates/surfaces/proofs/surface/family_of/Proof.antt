@@ -1,4 +1,4 @@
--- What is returned follows from the tests and the calls on the way, in their order. Assumes nothing.
+-- Drafted (tools/draft): opens nothing. By the tests and the calls, in order. Assumes nothing.
 use borrow.Author.Needs.{needs}
 use Rattle.surfaces.proofs.surface.family_of.Statement.{statement}
 use Rattle.surfaces.proofs.surface.family_of.Tie as tie
@@ -11,7 +11,7 @@ family-of-spec =
     (λ c. search needs)
     (λ c. search needs)
     (λ c. search needs)
-    (λ c. rw (c .before .kind .given .1))
-    (λ c. rw (c .before .kind2 .given .1))
-    (λ c. rw (c .before .kind3 .given .1))
-    (λ c. rw (c .before .kind4 .given .1)))
+    (λ c. let c1 = c .before in rw (c1 .kind .given .1))
+    (λ c. let c1 = c .before in rw (c1 .kind2 .given .1))
+    (λ c. let c1 = c .before in rw (c1 .kind3 .given .1))
+    (λ c. let c1 = c .before in rw (c1 .kind4 .given .1)))

@@ -1,6 +1,7 @@
--- What is returned follows from the tests and the calls on the way, in their order. Assumes nothing.
+-- By the kind's family, whose way is the kind's. Assumes nothing.
 use borrow.Author.Needs.{needs}
-use Rattle.surfaces.specs.Surface.{limitOf}
+use Rattle.surfaces.proofs.Ways.{family-way}
+use Rattle.surfaces.specs.Surface.{bare, limitOf}
 use Rattle.surfaces.proofs.surface.limit.Statement.{statement}
 use Rattle.surfaces.proofs.surface.limit.Tie as tie
 
@@ -13,7 +14,9 @@ limit-spec =
     (λ c. search needs)
     (λ c. search needs)
     (λ c κs. tt)
-    (λ c. rw (← c .before .before .family-of .ensures, c .enum-told .given .1))
     (λ c.
-    let c2 = c .before .before in let c4 = c2 .before .before in
-    rw (← c4 .family-of .ensures, c2 .q .given .1, ← c .profile-limit .ensures)))
+    let f = c .before .before in let kind = f .before .args .kind in
+    rw (family-way kind (bare kind), ← f .family-of .ensures, c .enum-told .given .1))
+    (λ c.
+    let q = c .before .before in let f = q .before .before in let kind = f .before .args .kind in
+    rw (family-way kind (bare kind), ← f .family-of .ensures, q .q .given .1, ← c .profile-limit .ensures)))

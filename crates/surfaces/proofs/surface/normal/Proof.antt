@@ -1,4 +1,4 @@
--- What is returned follows from the tests and the calls on the way, in their order. Assumes nothing.
+-- Drafted (tools/draft): opens Surface.surfaceNormal. By the tests and the calls, in order. Assumes nothing.
 use borrow.Author.Needs.{needs}
 use Rattle.surfaces.specs.Surface.{surfaceNormal}
 use Rattle.surfaces.proofs.surface.normal.Statement.{statement}
@@ -21,12 +21,6 @@ normal-spec =
     (λ c.
     let c1 = c .before in let c3 = c1 .before .before in
     rw (c3 .kind .given .1, ← c1 .conic-of .ensures, ← c .normal-at .ensures))
-    (λ c.
-    let c2 = c .before .before in
-    rw (c2 .kind2 .given .1, ← c .even-normal .ensures))
-    (λ c.
-    let c2 = c .before .before in
-    rw (c2 .kind3 .given .1, ← c .biconic-normal .ensures))
-    (λ c.
-    let c2 = c .before .before in
-    rw (c2 .kind4 .given .1, ← c .toroid-normal .ensures)))
+    (λ c. let c2 = c .before .before in rw (c2 .kind2 .given .1, ← c .raw-even-normal .ensures))
+    (λ c. let c2 = c .before .before in rw (c2 .kind3 .given .1, ← c .raw-biconic-normal .ensures))
+    (λ c. let c2 = c .before .before in rw (c2 .kind4 .given .1, ← c .raw-toroid-normal .ensures)))

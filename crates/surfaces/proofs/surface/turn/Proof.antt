@@ -1,14 +1,15 @@
--- What is returned follows from the tests and the calls on the way, in their order. Assumes nothing.
+-- Drafted (tools/draft): opens Surface.turnAnswer; refused by Refusals.never-done.
+-- By the tests and the calls, in order. Assumes nothing.
 use borrow.Author.Needs.{needs}
-use Rattle.surfaces.proofs.Refusals.{never-done}
 use lib.Ieee.{ofBits}
 use Rattle.numbers.specs.Arithmetic.{decimal}
-use Rattle.surfaces.specs.Surface.{turnRule}
+use Rattle.surfaces.specs.Surface.{turnAnswer}
+use Rattle.surfaces.proofs.Refusals.{never-done}
 use Rattle.surfaces.proofs.surface.turn.Statement.{statement}
 use Rattle.surfaces.proofs.surface.turn.Tie as tie
 
 pub turn-spec : {M : Type 1} → statement M
-unfolding turnRule decimal ofBits
+unfolding turnAnswer decimal ofBits
 turn-spec =
     tie.close
     (tie.spec
@@ -20,7 +21,8 @@ turn-spec =
     (λ c. search needs)
     (λ c. search needs)
     (λ c.
-    let c2 = c .before .before in let c4 = c2 .before .before in let c6 = c4 .before .before in let c8 = c6 .before .before in
+    let c2 = c .before .before in let c4 = c2 .before .before in let c6 = c4 .before .before in
+    let c8 = c6 .before .before in
     rw (← c8 .normal .ensures, c6 .n .given .1, ← c4 .onward .ensures, c2 .v .given .1, ← c .dot .ensures))
     (λ c.
     let c1 = c .before in let c3 = c1 .before .before in let c5 = c3 .before .before in let c7 = c5 .before .before in

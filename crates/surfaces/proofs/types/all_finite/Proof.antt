@@ -1,4 +1,4 @@
--- What is returned follows from the tests and the calls on the way, in their order. Assumes nothing.
+-- Drafted (tools/draft): opens Types.allFinite. By the tests and the calls, in order. Assumes nothing.
 use Rattle.surfaces.specs.Types.{allFinite}
 use Rattle.surfaces.proofs.types.all_finite.Statement.{statement}
 use Rattle.surfaces.proofs.types.all_finite.Tie as tie

@@ -1,4 +1,4 @@
--- What is returned follows from the tests and the calls on the way, in their order. Assumes nothing.
+-- Drafted (tools/draft): opens Types.coefficientsGood. By the tests and the calls, in order. Assumes nothing.
 use Rattle.surfaces.specs.Types.{coefficientsGood}
 use Rattle.surfaces.proofs.types.coefficients_good.Statement.{statement}
 use Rattle.surfaces.proofs.types.coefficients_good.Tie as tie

@@ -26,12 +26,14 @@ returns c =
 returns-2 : tie.Need-returns-2 Inv-loop μ-loop
 returns-2 c =
     let l = c .before .before .before .before in
-    sym (finite-stop (l .before .args .t1) (l .before .args .n) (l .loop .i) (omega arith) (search needs) (rw (← c .before .is-finite .ensures) (c .if2 .taken))) ∙ l .loop .inv
+    sym (finite-stop (l .before .args .t1) (l .before .args .n) (l .loop .i) (omega arith) (search needs)
+    (rw (← c .before .is-finite .ensures) (c .if2 .taken))) ∙ l .loop .inv
 
 loop-again : tie.Need-loop-again Inv-loop μ-loop
 loop-again c =
     let l = c .before .before .before .before in
-    sym (finite-turn (l .before .args .t1) (l .before .args .n) (l .loop .i) (omega arith) (search needs) (rw (← c .before .is-finite .ensures) (c .if2 .left))) ∙ l .loop .inv
+    sym (finite-turn (l .before .args .t1) (l .before .args .n) (l .loop .i) (omega arith) (search needs)
+    (rw (← c .before .is-finite .ensures) (c .if2 .left))) ∙ l .loop .inv
 
 returns-3 : tie.Need-returns-3 Inv-loop μ-loop
 returns-3 c =

@@ -1,4 +1,4 @@
--- What is returned follows from the tests and the calls on the way, in their order. Assumes nothing.
+-- Drafted (tools/draft): opens Types.overOf. By the tests and the calls, in order. Assumes nothing.
 use mathlib.Core.Path.{refl}
 use Rattle.surfaces.specs.Types.{overOf}
 use Rattle.surfaces.proofs.types.over.Statement.{statement}

@@ -1,4 +1,4 @@
--- What is returned follows from the tests and the calls on the way, in their order. Assumes nothing.
+-- Drafted (tools/draft): opens Types.rayFinite. By the tests and the calls, in order. Assumes nothing.
 use Rattle.surfaces.specs.Types.{rayFinite}
 use Rattle.surfaces.proofs.types.ray_finite.Statement.{statement}
 use Rattle.surfaces.proofs.types.ray_finite.Tie as tie
@@ -10,6 +10,4 @@ ray-finite-spec =
     (tie.spec
     (λ c κs. tt)
     (λ c κs. tt)
-    (λ c.
-    let c1 = c .before in
-    rw (← c1 .all-finite .ensures, ← c .all-finite2 .ensures)))
+    (λ c. let c1 = c .before in rw (← c1 .all-finite .ensures, ← c .all-finite2 .ensures)))

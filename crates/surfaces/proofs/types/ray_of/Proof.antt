@@ -1,4 +1,4 @@
--- As the rule says. Assumes nothing.
+-- Drafted (tools/draft): opens Types.rayOf. By the tests and the calls, in order. Assumes nothing.
 use mathlib.Core.Path.{refl}
 use Rattle.surfaces.specs.Types.{rayOf}
 use Rattle.surfaces.proofs.types.ray_of.Statement.{statement}
@@ -6,4 +6,7 @@ use Rattle.surfaces.proofs.types.ray_of.Tie as tie
 
 pub ray-of-spec : {M : Type 1} → statement M
 unfolding rayOf
-ray-of-spec = tie.close (tie.spec (λ c. refl))
+ray-of-spec =
+    tie.close
+    (tie.spec
+    (λ c. refl))

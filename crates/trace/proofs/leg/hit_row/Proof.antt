@@ -1,4 +1,4 @@
--- What is returned follows from the tests and the calls on the way, in their order. Assumes nothing.
+-- Drafted (tools/draft): opens Leg.hitRow. By the tests and the calls, in order. Assumes nothing.
 use borrow.Author.Needs.{needs}
 use lib.Ieee.{ofBits}
 use Rattle.numbers.specs.Arithmetic.{decimal}
@@ -13,6 +13,4 @@ hit-row-spec =
     (tie.spec
     (λ c κs. tt)
     (λ c. search needs)
-    (λ c.
-    let c1 = c .before in
-    rw (← c1 .truth .ensures)))
+    (λ c. let c1 = c .before in rw (← c1 .truth .ensures)))

@@ -1,6 +1,6 @@
--- What is returned follows from the tests and the calls on the way, in their order. Assumes nothing.
-use mathlib.Core.Path.{refl}
+-- Drafted (tools/draft): opens Leg.refusalRow. By the tests and the calls, in order. Assumes nothing.
 use borrow.Author.Needs.{needs}
+use mathlib.Core.Path.{refl}
 use lib.Ieee.{ofBits}
 use Rattle.numbers.specs.Arithmetic.{decimal}
 use Rattle.trace.specs.Leg.{refusalRow}

@@ -1,10 +1,10 @@
--- What is returned follows from the tests and the calls on the way, in their order. Assumes nothing.
+-- A room has fewer whole records than the count where it has fewer numbers than they take. Assumes nothing.
 use Prim.Native.Nat.{_*_}
 use native.Mathlib.Omega.{arith}
 use borrow.Author.Tests.{lt-ltb, le-ltb}
 use lib.Ieee.{ofBits}
 use Rattle.numbers.specs.Arithmetic.{decimal}
-use Rattle.trace.specs.Trace.{admission}
+use Rattle.trace.specs.Run.{admission}
 use Rattle.trace.proofs.run.admission.Statement.{statement}
 use Rattle.trace.proofs.run.admission.Tie as tie
 
@@ -23,7 +23,19 @@ admission-spec =
     rw (← c3 .ray-finite .ensures, ← c2 .is-finite .ensures, c1 .if1 .left, c .if2 .taken))
     (λ c.
     let c1 = c .before in let c2 = c1 .before in let c3 = c2 .before in let c4 = c3 .before in
-    rw (← c4 .ray-finite .ensures, ← c3 .is-finite .ensures, c2 .if1 .left, c1 .if2 .left, lt-ltb (c4 .before .args .room) (13 * c4 .before .args .count) (let h = c .if3 .taken in omega arith)))
+    rw (
+      ← c4 .ray-finite .ensures,
+      ← c3 .is-finite .ensures,
+      c2 .if1 .left,
+      c1 .if2 .left,
+      lt-ltb (c4 .before .args .room) (13 * c4 .before .args .count) (let h = c .if3 .taken in omega arith),
+    ))
     (λ c.
     let c1 = c .before in let c2 = c1 .before in let c3 = c2 .before in let c4 = c3 .before in
-    rw (← c4 .ray-finite .ensures, ← c3 .is-finite .ensures, c2 .if1 .left, c1 .if2 .left, le-ltb (c4 .before .args .room) (13 * c4 .before .args .count) (let h = c .if3 .left in omega arith))))
+    rw (
+      ← c4 .ray-finite .ensures,
+      ← c3 .is-finite .ensures,
+      c2 .if1 .left,
+      c1 .if2 .left,
+      le-ltb (c4 .before .args .room) (13 * c4 .before .args .count) (let h = c .if3 .left in omega arith),
+    )))

@@ -1,8 +1,8 @@
--- What is returned follows from the tests and the calls on the way, in their order. Assumes nothing.
+-- Drafted (tools/draft): opens Run.refusedAnswer. By the tests and the calls, in order. Assumes nothing.
 use mathlib.Core.Path.{refl}
 use lib.Ieee.{ofBits}
 use Rattle.numbers.specs.Arithmetic.{decimal}
-use Rattle.trace.specs.Trace.{refusedAnswer}
+use Rattle.trace.specs.Run.{refusedAnswer}
 use Rattle.trace.proofs.run.before_first.Statement.{statement}
 use Rattle.trace.proofs.run.before_first.Tie as tie
 

@@ -22,7 +22,9 @@ unfolding decimal ofBits
 loop-again c = (omega arith, simp length-set (omega arith), fill-more _ _ _ _ (omega arith) (c .before .loop .inv .2))
 
 returns : tie.Need-returns Inv-loop μ-loop
-returns c = fill-end (c .before .loop .i) _ (c .before .before .args .buf .now) _ (omega arith) (omega arith) (c .before .loop .inv .2)
+returns c =
+    fill-end (c .before .loop .i) _ (c .before .before .args .buf .now) _ (omega arith) (omega arith)
+    (c .before .loop .inv .2)
 
 pub blank-out-spec : {M : Type 1} → statement M
 blank-out-spec =

@@ -1,4 +1,4 @@
--- What is returned follows from the tests and the calls on the way, in their order. Assumes nothing.
+-- Drafted (tools/draft): opens State.surfaceLeft. By the tests and the calls, in order. Assumes nothing.
 use borrow.Author.Needs.{needs}
 use Rattle.trace.specs.State.{surfaceLeft}
 use Rattle.trace.proofs.run.leave.Statement.{statement}
@@ -16,4 +16,4 @@ leave-spec =
     (λ c. search needs)
     (λ c.
     let c3 = c .before .before .before in let c4 = c3 .before in let c6 = c4 .before .before in
-    rw (← c6 .onward .ensures, ← c4 .row .ensures, ← c3 .write-row .ensures, ← c .after .ensures)))
+    rw (← c6 .leg-of .ensures, ← c4 .row .ensures, ← c3 .write-row .ensures, ← c .after .ensures)))

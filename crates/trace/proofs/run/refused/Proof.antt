@@ -1,7 +1,7 @@
--- What is returned follows from the tests and the calls on the way, in their order. Assumes nothing.
+-- Drafted (tools/draft): opens Run.refusedAnswer. By the tests and the calls, in order. Assumes nothing.
 use lib.Ieee.{ofBits}
 use Rattle.numbers.specs.Arithmetic.{decimal}
-use Rattle.trace.specs.Trace.{refusedAnswer}
+use Rattle.trace.specs.Run.{refusedAnswer}
 use Rattle.trace.proofs.run.refused.Statement.{statement}
 use Rattle.trace.proofs.run.refused.Tie as tie
 
@@ -11,4 +11,5 @@ refused-spec =
     tie.close
     (tie.spec
     (λ c κs. tt)
-    (λ c. rw (← c .before-first .ensures)))
+    (λ c κs. tt)
+    (λ c. let c1 = c .before in rw (← c1 .no-ray .ensures, ← c .before-first .ensures)))

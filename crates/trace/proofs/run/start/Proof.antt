@@ -1,12 +1,26 @@
 -- Start is what its checks say, beside a blank buffer. Assumes nothing.
 use borrow.Author.Needs.{needs}
-use Rattle.trace.specs.Trace.{startOf}
+use Rattle.trace.specs.Run.{startOf}
 use Rattle.trace.proofs.Starts.{start-is}
 use Rattle.trace.proofs.run.start.Statement.{statement}
 use Rattle.trace.proofs.run.start.Tie as tie
 
-pub start-spec : {M : Type 1} → statement M
+-- places of the code: the entry, and the blank buffer
+abbrev entry : tie.After-blank-out → tie.Start
+entry c = c .before .before .before .before
+
+abbrev blanked : tie.After-check → tie.After-blank-out
+blanked c = c .before .before .before
+
+returns : tie.Need-returns
 unfolding startOf
+returns c =
+    let b = blanked (c .before) in
+    let a = entry b .args in
+    start-is (a .recipe .now) _ (c .before .check .ensures) 0 (a .ray) (a .index) (a .buf .now) _ _
+    (b .blank-out .ensures) (c .begin .ensures)
+
+pub start-spec : {M : Type 1} → statement M
 start-spec =
     tie.close
     (tie.spec
@@ -14,6 +28,4 @@ start-spec =
     (λ c κs. tt)
     (λ c κs. search needs)
     (λ c. search needs)
-    (λ c.
-    let a = c .before .before .before .before .before .before .before .before .args in
-    start-is (a .recipe .now) _ (c .before .check .ensures) 0 (a .ray) (a .index) (a .buf .now) _ _ (c .before .before .before .before .blank-out .ensures) (c .begin .ensures)))
+    returns)

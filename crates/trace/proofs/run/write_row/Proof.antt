@@ -12,16 +12,28 @@ use Rattle.trace.proofs.run.write_row.Statement.{statement}
 use Rattle.trace.proofs.run.write_row.Tie as tie
 
 abbrev Inv-loop : tie.InvT-loop
-Inv-loop buf₀ number values at i₀ buf i = (i ≤ width) × (length buf ≡ length buf₀) × (sets buf₀ (width * number) values ≡ sets buf (width * number + i) (drop i values))
+Inv-loop buf₀ number values at i₀ buf i =
+    (i ≤ width)
+    × (length buf ≡ length buf₀)
+    × (sets buf₀ (width * number) values ≡ sets buf (width * number + i) (drop i values))
 
 abbrev μ-loop : tie.MeasureT-loop
 μ-loop buf₀ number values at i₀ buf i = width - i
 
 loop-again : tie.Need-loop-again Inv-loop μ-loop
-loop-again c = (omega arith, simp length-set (omega arith), c .before .loop .inv .2 ∙ sets-turn (c .before .loop .buf) (c .before .before .args .t3) (width * c .before .before .args .number) (c .before .loop .i) _ (search needs))
+loop-again c =
+    let loop = c .before .loop in
+    let a = c .before .before .args in (
+      omega arith,
+      simp length-set (omega arith),
+      loop .inv .2 ∙ sets-turn (loop .buf) (a .t3) (width * a .number) (loop .i) _ (search needs),
+    )
 
 returns : tie.Need-returns Inv-loop μ-loop
-returns c = sym (c .before .loop .inv .2 ∙ sets-end (c .before .loop .buf) (c .before .before .args .t3) (width * c .before .before .args .number) (c .before .loop .i) (search needs))
+returns c =
+    let loop = c .before .loop in
+    let a = c .before .before .args in
+    sym (loop .inv .2 ∙ sets-end (loop .buf) (a .t3) (width * a .number) (loop .i) (search needs))
 
 pub write-row-spec : {M : Type 1} → statement M
 write-row-spec =

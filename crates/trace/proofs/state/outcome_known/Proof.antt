@@ -1,13 +1,11 @@
--- What is returned follows from the tests and the calls on the way, in their order. Assumes nothing.
+-- Drafted (tools/draft): opens State.outcomeKnown. By the tests and the calls, in order. Assumes nothing.
 use mathlib.Core.Path.{refl}
-use lib.Ieee.{ofBits}
-use Rattle.numbers.specs.Arithmetic.{decimal}
 use Rattle.trace.specs.State.{outcomeKnown}
 use Rattle.trace.proofs.state.outcome_known.Statement.{statement}
 use Rattle.trace.proofs.state.outcome_known.Tie as tie
 
 pub outcome-known-spec : {M : Type 1} → statement M
-unfolding outcomeKnown decimal ofBits
+unfolding outcomeKnown
 outcome-known-spec =
     tie.close
     (tie.spec

@@ -1,5 +1,4 @@
--- `tracelist::listing::count` meets its contract: its tests are those that dropping the fraction asks for, and a number that fails one is past an end of the range.
--- Assumes nothing.
+-- The tests are those that dropping the fraction asks for; what fails one is past an end of the range. Assumes nothing.
 use Prim.Native.Nat.{_+_, _-_, _*_, _/_, _^_, _≤_}
 use mathlib.Core.Path.{_≡_, refl, sym, subst}
 use mathlib.Core.Bool.{true, false, false≢true}
@@ -24,7 +23,8 @@ below (fin false m e) h =
     let k : 1 * up (pos 0) * down e + m * up e * down (pos 0) ≤ 0 = ltb-false _ _ h in
     absurd (omega (arith, down-pos e))
 
-above : (x : Float) → lt (fin true 1 (pos 0)) x ≡ true → lt x (fin false 1 (pos 64)) ≡ false → 2 ^ 64 - 1 ≡ toUnsigned 64 x
+above : (x : Float) → lt (fin true 1 (pos 0)) x ≡ true → lt x (fin false 1 (pos 64)) ≡ false
+    → 2 ^ 64 - 1 ≡ toUnsigned 64 x
 unfolding lt toUnsigned
 above nan l h = absurd (false≢true l)
 above (inf true) l h = absurd (false≢true (sym h))

@@ -1,7 +1,7 @@
--- `tracelist::listing::end_line` meets its contract: the tests are the rule's. Assumes nothing.
+-- Drafted (tools/draft): opens lines.Output.ended. By the tests and the calls, in order. Assumes nothing.
 use borrow.Author.Needs.{needs}
-use borrow.Author.Tests.{eq-eqb, ne-eqb, lt-ltb, le-ltb}
-use Rattle.lines.specs.Text.{ended}
+use borrow.Author.Tests.{eq-eqb, le-ltb, lt-ltb, ne-eqb}
+use Rattle.lines.specs.Output.{ended}
 use Rattle.tracelist.proofs.listing.end_line.Statement.{statement}
 use Rattle.tracelist.proofs.listing.end_line.Tie as tie
 
@@ -11,8 +11,8 @@ end-line-spec =
     tie.close
     (tie.spec
     (λ c. rw (eq-eqb _ _ (c .if1 .taken)))
-    (λ c. rw (ne-eqb _ _ (c .before .if1 .left), lt-ltb _ _ (c .if2 .taken)))
+    (λ c. let c1 = c .before in rw (ne-eqb _ _ (c1 .if1 .left), lt-ltb _ _ (c .if2 .taken)))
     (λ c. search needs)
     (λ c. search needs)
     (λ c. search needs)
-    (λ c. rw (ne-eqb _ _ (c .before .if1 .left), le-ltb _ _ (c .if2 .left))))
+    (λ c. let c1 = c .before in rw (ne-eqb _ _ (c1 .if1 .left), le-ltb _ _ (c .if2 .left))))

@@ -1,4 +1,4 @@
--- `tracelist::listing::put_end` meets its contract: the words one after the other, and their line feed. Assumes nothing.
+-- The words one after the other, and their line feed. Assumes nothing.
 use native.Mathlib.Omega.{arith}
 use borrow.Author.Needs.{needs}
 use Rattle.tracelist.specs.Listing.{ascii, endLine}

@@ -1,4 +1,4 @@
--- `tracelist::listing::put_record` meets its contract: the words one after the other, and their line feed. Assumes nothing.
+-- The words one after the other, and their line feed. Assumes nothing.
 use mathlib.Core.Path.{_∙_}
 use native.Mathlib.Omega.{arith}
 use borrow.Author.Needs.{needs}
@@ -29,9 +29,12 @@ put-record-spec =
     (λ c.
     let feed = c .before .before in
     let slots = feed .before .before .before .before in
-    let steps = slots .before .before .before .before .before in
-    let status = steps .before .before .before .before .before .before in
-    let number = status .before .before .before .before .before .before in
+    let steps-there = slots .before .before .before in
+    let steps = steps-there .before .before in
+    let status-there = steps .before .before .before .before in
+    let status = status-there .before .before in
+    let number-there = status .before .before .before .before in
+    let number = number-there .before .before in
     let start = number .before .before .before .before in
     let x = start .args in
     rw (feed .end-line .ensures)

@@ -1,4 +1,4 @@
--- `tracelist::listing::put_records` meets its contract: at each turn the lines that are left, behind those before them, come to the same. Assumes nothing.
+-- At each turn the lines that are left, behind those before them, come to the same. Assumes nothing.
 use Prim.Native.Nat.{ℕ, suc, _+_, _-_, _*_, _≤_, _<_}
 use mathlib.Core.Path.{_≡_, refl, sym, _∙_, ap}
 use mathlib.Core.List.{List, _++_}
@@ -24,7 +24,8 @@ row results i = take (i * width + width - i * width) (drop (i * width) results)
 abbrev left : List Float → ℕ → ℕ → List ℕ
 left results count i = rowLines i (count - i) (drop (i * width) results)
 
-row-width : (results : List Float) (count i : ℕ) → i < count → width * count ≤ length results → length (row results i) ≡ width
+row-width : (results : List Float) (count i : ℕ) → i < count → width * count ≤ length results
+    → length (row results i) ≡ width
 row-width results count i h r = simp (length-take, length-drop) (omega arith)
 
 module _ (results : List Float) (count i : ℕ) (out : List ℕ) (end : ℕ) where
@@ -41,8 +42,8 @@ module _ (results : List Float) (count i : ℕ) (out : List ℕ) (end : ℕ) whe
   one-more h p e =
       both-written out end _ _ p _ e refl ∙ ap (written out end) (sym (first-left h))
 
-  within : i < count → width * count ≤ length results → (p : ℕ × List ℕ) → p ≡ written out end (recordLine i (row results i)) → end ≤ recordBytes * i
-      → p .0 ≤ recordBytes * (i + 1)
+  within : i < count → width * count ≤ length results → (p : ℕ × List ℕ)
+      → p ≡ written out end (recordLine i (row results i)) → end ≤ recordBytes * i → p .0 ≤ recordBytes * (i + 1)
   unfolding written
   within h r p e b =
       let q : p .0 ≡ end + length (recordLine i (row results i)) = ap (λ (w : ℕ × List ℕ). w .0) e in
@@ -54,7 +55,8 @@ module _ (results : List Float) (count i : ℕ) (out : List ℕ) (end : ℕ) whe
 
 abbrev Inv-loop : tie.InvT-loop
 Inv-loop out₀ results count end₀ i₀ out end i =
-    (i ≤ count) × (end ≤ recordBytes * i) × (length out ≡ length out₀) × (written out end (left results count i) ≡ written out₀ 0 (rowLines 0 count results))
+    (i ≤ count) × (end ≤ recordBytes * i) × (length out ≡ length out₀)
+    × (written out end (left results count i) ≡ written out₀ 0 (rowLines 0 count results))
 
 abbrev μ-loop : tie.MeasureT-loop
 μ-loop out₀ results count end₀ i₀ out end i = count - i
@@ -71,8 +73,11 @@ put-records-spec =
     (λ c. search needs)
     (λ c. search needs)
     (λ c κs.
-    let turn = c .before .before in let start = turn .before .before .before .before in
-    (row-width (start .args .results .now) (start .args .count) (turn .before .loop .i) (turn .loop-test .taken) (start .pre .0), search needs))
+    let turn = c .before .before in
+    let start = turn .before .before .before .before in
+    let x = start .args in
+    let i = turn .before .loop .i in
+    (row-width (x .results .now) (x .count) i (turn .loop-test .taken) (start .pre .0), search needs))
     (λ c. search needs)
     (λ c. search needs)
     (λ c.

@@ -1,4 +1,4 @@
--- `tracelist::listing::put_refused` meets its contract: the words one after the other, and their line feed. Assumes nothing.
+-- The words one after the other, and their line feed. Assumes nothing.
 use mathlib.Core.Path.{_∙_}
 use native.Mathlib.Omega.{arith}
 use borrow.Author.Needs.{needs}

@@ -1,4 +1,4 @@
--- `tracelist::listing::put_trace` meets its contract: the records' lines, and the last behind them. Assumes nothing.
+-- The records' lines, and the last behind them. Assumes nothing.
 use Prim.Native.Nat.{ℕ, _+_, _*_, _≤_}
 use mathlib.Core.Path.{_≡_, _∙_, ap}
 use mathlib.Core.List.{List}
@@ -13,7 +13,8 @@ use Rattle.tracelist.proofs.Widths.{rows-short, state-short}
 use Rattle.tracelist.proofs.listing.put_trace.Statement.{statement}
 use Rattle.tracelist.proofs.listing.put_trace.Tie as tie
 
-rows-within : (out : List ℕ) (n : ℕ) (z : List Float) (p : ℕ × List ℕ) → width * n ≤ length z → p ≡ written out 0 (rowLines 0 n z) → p .0 ≤ recordBytes * n
+rows-within : (out : List ℕ) (n : ℕ) (z : List Float) (p : ℕ × List ℕ) → width * n ≤ length z
+    → p ≡ written out 0 (rowLines 0 n z) → p .0 ≤ recordBytes * n
 unfolding written
 rows-within out n z p h e =
     let q : p .0 ≡ 0 + length (rowLines 0 n z) = ap (λ (w : ℕ × List ℕ). w .0) e in
@@ -28,7 +29,9 @@ put-trace-spec =
     (λ c κs. search needs)
     (λ c κs. omega (arith, rows-within _ _ _ _ (omega arith) (c .before .put-records .ensures)))
     (λ c.
-    let records = c .before .before in let start = records .before .before .before .before .before in
+    let records = c .before .before in
+    let count = records .before in
+    let start = count .before .before .before .before in
     let short = state-short (start .args .results .now) (start .args .s) (start .pre) (search needs) in
-    both-written _ _ _ _ _ _ (rw (records .before .records-of .ensures) at (records .put-records .ensures)) (c .put-end .ensures)
+    both-written _ _ _ _ _ _ (rw (count .records-of .ensures) at (records .put-records .ensures)) (c .put-end .ensures)
     ∙ written-filled _ _ (omega arith)))

@@ -1,4 +1,4 @@
--- `tracelist::listing::records_of` meets its contract. Assumes nothing.
+-- The test is the rule's. Assumes nothing.
 use borrow.Author.Tests.{eq-eqb, ne-eqb}
 use Rattle.tracelist.specs.Parts.{recordsOf}
 use Rattle.tracelist.proofs.listing.records_of.Statement.{statement}

@@ -1,4 +1,4 @@
--- What is returned follows from the tests and the calls on the way, in their order. Assumes nothing.
+-- Drafted (tools/draft): opens Asphere.evenGood. By the tests and the calls, in order. Assumes nothing.
 use Rattle.surfaces.specs.Asphere.{evenGood}
 use Rattle.surfaces.proofs.asphere.EvenAsphere.is_good.Statement.{statement}
 use Rattle.surfaces.proofs.asphere.EvenAsphere.is_good.Tie as tie
@@ -14,4 +14,9 @@ is-good-spec =
     (λ c κs. tt)
     (λ c.
     let c1 = c .before in let c2 = c1 .before in let c3 = c2 .before in
-    rw (← c3 .is-finite .ensures, ← c2 .is-finite2 .ensures, ← c1 .is-finite3 .ensures, ← c .coefficients-good .ensures)))
+    rw (
+      ← c3 .is-finite .ensures,
+      ← c2 .is-finite2 .ensures,
+      ← c1 .is-finite3 .ensures,
+      ← c .coefficients-good .ensures,
+    )))

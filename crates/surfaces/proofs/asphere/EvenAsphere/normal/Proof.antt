@@ -1,4 +1,4 @@
--- What is returned follows from the tests and the calls on the way, in their order. Assumes nothing.
+-- Drafted (tools/draft): opens Asphere.evenNormalAnswer. By the tests and the calls, in order. Assumes nothing.
 use Rattle.surfaces.specs.Asphere.{evenNormalAnswer}
 use Rattle.surfaces.proofs.asphere.EvenAsphere.normal.Statement.{statement}
 use Rattle.surfaces.proofs.asphere.EvenAsphere.normal.Tie as tie
@@ -17,5 +17,13 @@ normal-spec =
     (λ c κs. tt)
     (λ c κs. tt)
     (λ c.
-    let c1 = c .before in let c3 = c1 .before .before in let c4 = c3 .before in let c5 = c4 .before in let c6 = c5 .before in
-    rw (← c6 .is-finite .ensures, ← c5 .is-finite2 .ensures, ← c4 .is-good .ensures, c3 .if1 .left, ← c1 .even-normal .ensures, ← c .checked-direction .ensures)))
+    let c1 = c .before in let c3 = c1 .before .before in let c4 = c3 .before in let c5 = c4 .before in
+    let c6 = c5 .before in
+    rw (
+      ← c6 .is-finite .ensures,
+      ← c5 .is-finite2 .ensures,
+      ← c4 .is-good .ensures,
+      c3 .if1 .left,
+      ← c1 .raw-even-normal .ensures,
+      ← c .checked-direction .ensures,
+    )))

@@ -1,19 +1,17 @@
--- What is returned follows from the tests and the calls on the way, in their order. Assumes nothing.
+-- Drafted (tools/draft): opens Asphere.evenParaxialAnswer. By the tests and the calls, in order. Assumes nothing.
 use lib.Ieee.{ofBits}
 use Rattle.numbers.specs.Arithmetic.{decimal}
-use Rattle.surfaces.specs.Asphere.{evenParaxial}
+use Rattle.surfaces.specs.Asphere.{evenParaxialAnswer}
 use Rattle.surfaces.proofs.asphere.EvenAsphere.paraxial_curvature.Statement.{statement}
 use Rattle.surfaces.proofs.asphere.EvenAsphere.paraxial_curvature.Tie as tie
 
 pub paraxial-curvature-spec : {M : Type 1} → statement M
-unfolding evenParaxial decimal ofBits
+unfolding evenParaxialAnswer decimal ofBits
 paraxial-curvature-spec =
     tie.close
     (tie.spec
     (λ c κs. tt)
-    (λ c.
-    let c1 = c .before in
-    rw (← c1 .is-good .ensures, c .if1 .taken))
+    (λ c. let c1 = c .before in rw (← c1 .is-good .ensures, c .if1 .taken))
     (λ c κs. tt)
     (λ c κs. tt)
     (λ c.

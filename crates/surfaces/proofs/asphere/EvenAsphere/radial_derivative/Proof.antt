@@ -1,4 +1,4 @@
--- What is returned follows from the tests and the calls on the way, in their order. Assumes nothing.
+-- Drafted (tools/draft): opens Asphere.evenSlopeAnswer. By the tests and the calls, in order. Assumes nothing.
 use Rattle.surfaces.specs.Asphere.{evenSlopeAnswer}
 use Rattle.surfaces.proofs.asphere.EvenAsphere.radial_derivative.Statement.{statement}
 use Rattle.surfaces.proofs.asphere.EvenAsphere.radial_derivative.Tie as tie
@@ -17,4 +17,10 @@ radial-derivative-spec =
     (λ c κs. tt)
     (λ c.
     let c1 = c .before in let c3 = c1 .before .before in let c4 = c3 .before in let c5 = c4 .before in
-    rw (← c5 .is-finite .ensures, ← c4 .is-good .ensures, c3 .if1 .left, ← c1 .even-slope .ensures, ← c .checked-number .ensures)))
+    rw (
+      ← c5 .is-finite .ensures,
+      ← c4 .is-good .ensures,
+      c3 .if1 .left,
+      ← c1 .raw-even-slope .ensures,
+      ← c .checked-number .ensures,
+    )))

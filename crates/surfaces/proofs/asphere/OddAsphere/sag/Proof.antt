@@ -1,4 +1,4 @@
--- What is returned follows from the tests and the calls on the way, in their order. Assumes nothing.
+-- Drafted (tools/draft): opens Asphere.oddSagAnswer. By the tests and the calls, in order. Assumes nothing.
 use Rattle.surfaces.specs.Asphere.{oddSagAnswer}
 use Rattle.surfaces.proofs.asphere.OddAsphere.sag.Statement.{statement}
 use Rattle.surfaces.proofs.asphere.OddAsphere.sag.Tie as tie
@@ -17,4 +17,10 @@ sag-spec =
     (λ c κs. tt)
     (λ c.
     let c1 = c .before in let c2 = c1 .before in let c3 = c2 .before in let c4 = c3 .before in
-    rw (← c4 .is-finite .ensures, ← c3 .is-good .ensures, c2 .if1 .left, ← c1 .odd-sag .ensures, ← c .checked-sag .ensures)))
+    rw (
+      ← c4 .is-finite .ensures,
+      ← c3 .is-good .ensures,
+      c2 .if1 .left,
+      ← c1 .raw-odd-sag .ensures,
+      ← c .checked-sag .ensures,
+    )))

@@ -1,12 +1,11 @@
--- What is returned follows from the tests and the calls on the way, in their order. Assumes nothing.
-use lib.Ieee.{ofBits}
-use Rattle.numbers.specs.Arithmetic.{decimal}
+-- Drafted (tools/draft): opens Biconic.biconicCrossingAnswer; without no-coefficients in returns-2.
+-- By the tests and the calls, in order. Assumes nothing.
 use Rattle.surfaces.specs.Biconic.{biconicCrossingAnswer}
 use Rattle.surfaces.proofs.biconic.BiconicSurface.intersect_ray.Statement.{statement}
 use Rattle.surfaces.proofs.biconic.BiconicSurface.intersect_ray.Tie as tie
 
 pub intersect-ray-spec : {M : Type 1} → statement M
-unfolding biconicCrossingAnswer decimal ofBits
+unfolding biconicCrossingAnswer
 intersect-ray-spec =
     tie.close
     (tie.spec
@@ -19,5 +18,11 @@ intersect-ray-spec =
     (λ c κs. tt)
     (λ c κs. tt)
     (λ c.
-    let c1 = c .before in let c2 = c1 .before in let c3 = c2 .before in let c4 = c3 .before in let c5 = c4 .before in
-    rw (← c5 .is-good .ensures, ← c4 .can-be-met .ensures, c3 .if1 .left, ← c1 .newton .ensures, ← c .checked-crossing .ensures)))
+    let c1 = c .before in let c3 = c1 .before .before in let c4 = c3 .before in let c5 = c4 .before in
+    rw (
+      ← c5 .is-good .ensures,
+      ← c4 .can-be-met .ensures,
+      c3 .if1 .left,
+      ← c1 .newton .ensures,
+      ← c .checked-crossing .ensures,
+    )))

@@ -1,11 +1,8 @@
--- What is returned follows from the tests and the calls on the way, in their order. Assumes nothing.
-use lib.Ieee.{ofBits}
-use Rattle.numbers.specs.Arithmetic.{decimal}
+-- Drafted (tools/draft): opens nothing. By the tests and the calls, in order. Assumes nothing.
 use Rattle.surfaces.proofs.biconic.BiconicSurface.ry_mm.Statement.{statement}
 use Rattle.surfaces.proofs.biconic.BiconicSurface.ry_mm.Tie as tie
 
 pub ry-mm-spec : {M : Type 1} → statement M
-unfolding decimal ofBits
 ry-mm-spec =
     tie.close
     (tie.spec

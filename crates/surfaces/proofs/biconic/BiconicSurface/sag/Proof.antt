@@ -1,4 +1,4 @@
--- What is returned follows from the tests and the calls on the way, in their order. Assumes nothing.
+-- Drafted (tools/draft): opens Biconic.biconicSagAnswer. By the tests and the calls, in order. Assumes nothing.
 use Rattle.surfaces.specs.Biconic.{biconicSagAnswer}
 use Rattle.surfaces.proofs.biconic.BiconicSurface.sag.Statement.{statement}
 use Rattle.surfaces.proofs.biconic.BiconicSurface.sag.Tie as tie
@@ -16,7 +16,13 @@ sag-spec =
     rw (← c3 .is-finite .ensures, ← c2 .is-finite2 .ensures, ← c1 .is-good .ensures, c .if1 .taken))
     (λ c κs. tt)
     (λ c κs. tt)
-    (λ c κs. tt)
     (λ c.
-    let c1 = c .before in let c2 = c1 .before in let c3 = c2 .before in let c4 = c3 .before in let c5 = c4 .before in let c6 = c5 .before in
-    rw (← c6 .is-finite .ensures, ← c5 .is-finite2 .ensures, ← c4 .is-good .ensures, c3 .if1 .left, ← c2 .biconic-depth .ensures, ← c1 .sag-of .ensures, ← c .checked-sag .ensures)))
+    let c1 = c .before in let c2 = c1 .before in let c3 = c2 .before in let c4 = c3 .before in let c5 = c4 .before in
+    rw (
+      ← c5 .is-finite .ensures,
+      ← c4 .is-finite2 .ensures,
+      ← c3 .is-good .ensures,
+      c2 .if1 .left,
+      ← c1 .raw-biconic-sag .ensures,
+      ← c .checked-sag .ensures,
+    )))

@@ -1,4 +1,4 @@
--- What is returned follows from the tests and the calls on the way, in their order. Assumes nothing.
+-- Drafted (tools/draft): opens Biconic.toroidGood. By the tests and the calls, in order. Assumes nothing.
 use Rattle.surfaces.specs.Biconic.{toroidGood}
 use Rattle.surfaces.proofs.biconic.ToroidalSurface.is_good.Statement.{statement}
 use Rattle.surfaces.proofs.biconic.ToroidalSurface.is_good.Tie as tie

@@ -1,19 +1,15 @@
--- What is returned follows from the tests and the calls on the way, in their order. Assumes nothing.
+-- Drafted (tools/draft): opens Biconic.newToroidAnswer. By the tests and the calls, in order. Assumes nothing.
 use lib.Ieee.{ofBits}
 use Rattle.numbers.specs.Arithmetic.{decimal}
-use Rattle.surfaces.specs.Biconic.{newToroid}
+use Rattle.surfaces.specs.Biconic.{newToroidAnswer}
 use Rattle.surfaces.proofs.biconic.ToroidalSurface.new.Statement.{statement}
 use Rattle.surfaces.proofs.biconic.ToroidalSurface.new.Tie as tie
 
 pub new-spec : {M : Type 1} → statement M
-unfolding newToroid decimal ofBits
+unfolding newToroidAnswer decimal ofBits
 new-spec =
     tie.close
     (tie.spec
     (λ c κs. tt)
-    (λ c.
-    let c1 = c .before in
-    rw (← c1 .is-good .ensures, c .if1 .taken))
-    (λ c.
-    let c1 = c .before in
-    rw (← c1 .is-good .ensures, c .if1 .left)))
+    (λ c. let c1 = c .before in rw (← c1 .is-good .ensures, c .if1 .taken))
+    (λ c. let c1 = c .before in rw (← c1 .is-good .ensures, c .if1 .left)))

@@ -1,4 +1,4 @@
--- What is returned follows from the tests and the calls on the way, in their order. Assumes nothing.
+-- Drafted (tools/draft): opens Biconic.toroidNormalAnswer. By the tests and the calls, in order. Assumes nothing.
 use Rattle.surfaces.specs.Biconic.{toroidNormalAnswer}
 use Rattle.surfaces.proofs.biconic.ToroidalSurface.normal.Statement.{statement}
 use Rattle.surfaces.proofs.biconic.ToroidalSurface.normal.Tie as tie
@@ -18,4 +18,11 @@ normal-spec =
     (λ c κs. tt)
     (λ c.
     let c1 = c .before in let c2 = c1 .before in let c3 = c2 .before in let c4 = c3 .before in let c5 = c4 .before in
-    rw (← c5 .is-finite .ensures, ← c4 .is-finite2 .ensures, ← c3 .is-good .ensures, c2 .if1 .left, ← c1 .toroid-normal .ensures, ← c .checked-direction .ensures)))
+    rw (
+      ← c5 .is-finite .ensures,
+      ← c4 .is-finite2 .ensures,
+      ← c3 .is-good .ensures,
+      c2 .if1 .left,
+      ← c1 .raw-toroid-normal .ensures,
+      ← c .checked-direction .ensures,
+    )))

@@ -1,12 +1,12 @@
--- What is returned follows from the tests and the calls on the way, in their order. Assumes nothing.
+-- Drafted (tools/draft): opens Conic.fromCurvatureAnswer. By the tests and the calls, in order. Assumes nothing.
 use lib.Ieee.{ofBits}
 use Rattle.numbers.specs.Arithmetic.{decimal}
-use Rattle.surfaces.specs.Conic.{fromCurvature}
+use Rattle.surfaces.specs.Conic.{fromCurvatureAnswer}
 use Rattle.surfaces.proofs.conic.ConicSurface.from_curvature.Statement.{statement}
 use Rattle.surfaces.proofs.conic.ConicSurface.from_curvature.Tie as tie
 
 pub from-curvature-spec : {M : Type 1} → statement M
-unfolding fromCurvature decimal ofBits
+unfolding fromCurvatureAnswer decimal ofBits
 from-curvature-spec =
     tie.close
     (tie.spec

@@ -1,11 +1,8 @@
--- What is returned follows from the tests and the calls on the way, in their order. Assumes nothing.
-use lib.Ieee.{ofBits}
-use Rattle.numbers.specs.Arithmetic.{decimal}
+-- Drafted (tools/draft): opens nothing. By the tests and the calls, in order. Assumes nothing.
 use Rattle.surfaces.proofs.conic.ConicSurface.radius_mm.Statement.{statement}
 use Rattle.surfaces.proofs.conic.ConicSurface.radius_mm.Tie as tie
 
 pub radius-mm-spec : {M : Type 1} → statement M
-unfolding decimal ofBits
 radius-mm-spec =
     tie.close
     (tie.spec

@@ -1,8 +1,9 @@
--- What is returned follows from the tests and the calls on the way, in their order. Assumes nothing.
+-- Drafted (tools/draft): opens State.stateAfter; refused by surfaces.Refusals.never-done.
+-- By the tests and the calls, in order. Assumes nothing.
 use borrow.Author.Needs.{needs}
-use Rattle.surfaces.proofs.Refusals.{never-done}
 use lib.Ieee.{ofBits}
 use Rattle.numbers.specs.Arithmetic.{decimal}
+use Rattle.surfaces.proofs.Refusals.{never-done}
 use Rattle.trace.specs.State.{stateAfter}
 use Rattle.trace.proofs.state.State.after.Statement.{statement}
 use Rattle.trace.proofs.state.State.after.Tie as tie
@@ -21,6 +22,4 @@ after-spec =
     (λ c.
     let c1 = c .before in let c4 = c1 .before .before .before in
     rw (c4 .e .given .1, ← c1 .beam-after .ensures, ← c .outcome-at .ensures))
-    (λ c.
-    let c2 = c .before .before in
-    rw (c2 .e2 .given .1, never-done, ← c .line-of .ensures)))
+    (λ c. let c2 = c .before .before in rw (c2 .e2 .given .1, never-done, ← c .line-of .ensures)))

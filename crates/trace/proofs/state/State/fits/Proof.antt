@@ -1,12 +1,10 @@
--- What is returned follows from the tests and the calls on the way, in their order. Assumes nothing.
-use lib.Ieee.{ofBits}
-use Rattle.numbers.specs.Arithmetic.{decimal}
+-- Drafted (tools/draft): opens State.fitsOf. By the tests and the calls, in order. Assumes nothing.
 use Rattle.trace.specs.State.{fitsOf}
 use Rattle.trace.proofs.state.State.fits.Statement.{statement}
 use Rattle.trace.proofs.state.State.fits.Tie as tie
 
 pub fits-spec : {M : Type 1} → statement M
-unfolding fitsOf decimal ofBits
+unfolding fitsOf
 fits-spec =
     tie.close
     (tie.spec

@@ -1,4 +1,4 @@
--- What is returned follows from the tests and the calls on the way, in their order. Assumes nothing.
+-- Drafted (tools/draft): opens State.passesFit. By the tests and the calls, in order. Assumes nothing.
 use borrow.Author.Tests.{eq-eqb, ne-eqb}
 use Rattle.trace.specs.State.{passesFit}
 use Rattle.trace.proofs.state.State.passes_fit.Statement.{statement}
@@ -9,9 +9,5 @@ unfolding passesFit
 passes-fit-spec =
     tie.close
     (tie.spec
-    (λ c.
-    let c2 = c .before .before in
-    rw (eq-eqb _ _ (c2 .if1 .taken)))
-    (λ c.
-    let c1 = c .before in
-    rw (ne-eqb _ _ (c1 .if1 .left))))
+    (λ c. let c2 = c .before .before in rw (eq-eqb _ _ (c2 .if1 .taken)))
+    (λ c. let c1 = c .before in rw (ne-eqb _ _ (c1 .if1 .left))))

@@ -18,6 +18,7 @@ pub use input::next_line;
 pub use output::COUNT_BYTES;
 pub use output::FLOAT_BYTES;
 pub use output::bits_of;
+pub use output::end_line;
 pub use output::put_count;
 pub use output::put_float;
 pub use output::put_floats;

@@ -99,16 +99,26 @@ fn glyph(value: u64) -> u8
     }
 }
 
+// The line feed takes the place of the space behind the last word.
+pub fn end_line(out: &mut [u8], end: usize)
+    ensures { λ _. ⌜ now (out .exit) ≡ ended (now (out .entry)) end ⌝ }
+{
+    if end == 0 {
+        return;
+    }
+    if end > out.len() {
+        return;
+    }
+    out[end - 1] = b'\n';
+}
+
 // Writes the words that were put, up to the next place, as a line, and tells whether that succeeded.
 pub fn write_line(out: &mut [u8], end: usize) -> bool
     ensures { λ _. ⌜ now (out .exit) ≡ ended (now (out .entry)) end ⌝ }
 {
-    if end == 0 {
+    end_line(out, end);
+    if out.len() < end {
         return false;
     }
-    if end > out.len() {
-        return false;
-    }
-    out[end - 1] = b'\n';
     io::write_all(STDOUT_FILENO, &out[..end])
 }

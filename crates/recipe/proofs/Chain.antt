@@ -16,12 +16,12 @@ use Rattle.recipe.proofs.Scans.{Scanned, over, passes, scanned}
 
 pub data Chain (b : List ℕ) : ℕ → List Item → Type 0 where
   stop : {at : ℕ} → at ≡ length b → Chain b at []
-  link : {at next : ℕ} {o : Optic} {l : List Item} → at ≤ length b → recordAt b at ≡ good o next → Chain b next l
+  link : {at next : ℕ} {o : Optic} {l : List Item} → recordAt b at ≡ good o next → Chain b next l
       → Chain b at (record { at = at; next = next; optic = o } ∷ l)
 
 chained : (b : List ℕ) {left at : ℕ} {l : List Item} → at ≤ length b → Scanned b left at (items l) → Chain b at l
 chained b {at = at} h (over k) = stop {at = at} (omega arith)
-chained b h (passes k e s) = link h e (chained b (good-inside b _ e .1) s)
+chained b h (passes k e s) = link e (chained b (good-inside b _ e .1) s)
 
 pub scan-chain : (b : List ℕ) (left at : ℕ) (l : List Item) → at ≤ length b → scan b left at ≡ items l → Chain b at l
 scan-chain b left at l h e = chained b h (rw e at (scanned b left at))
@@ -41,21 +41,21 @@ module _ (b : List ℕ) where
   pub place-first : {at : ℕ} {l : List Item} → Chain b at l → placeOf l (length b) 0 ≡ at
   unfolding placeOf
   place-first (stop e) = sym e
-  place-first (link h e c) = refl
+  place-first (link e c) = refl
 
   pub place-next : {at : ℕ} {l : List Item} → Chain b at l → (k : ℕ) → k < length l
       → itemAt l k .next ≡ placeOf l (length b) (suc k)
   unfolding placeOf
   place-next (stop e) k h = absurd (not-suc-le-zero h)
-  place-next (link h e c) zero k = sym (place-first c)
-  place-next (link h e c) (suc k) m = place-next c k (omega arith)
+  place-next (link e c) zero k = sym (place-first c)
+  place-next (link e c) (suc k) m = place-next c k (omega arith)
 
   pub record-there : {at : ℕ} {l : List Item} → Chain b at l → (k : ℕ) → k < length l
       → recordAt b (placeOf l (length b) k) ≡ good (itemAt l k .optic) (itemAt l k .next)
   unfolding placeOf
   record-there (stop e) k h = absurd (not-suc-le-zero h)
-  record-there (link h e c) zero k = e
-  record-there (link h e c) (suc k) m = record-there c k (omega arith)
+  record-there (link e c) zero k = e
+  record-there (link e c) (suc k) m = record-there c k (omega arith)
 
   pub index-there : {at : ℕ} {l : List Item} → Chain b at l → (k : ℕ) → k < length l
       → (finite (itemAt l k .optic .index) ≡ true) × ((itemAt l k .optic .index ≤₆₄ 0f) ≡ false)

@@ -283,7 +283,7 @@ closed y l [] {at} (stop h) k q m n b w e lw lm =
     subst (λ (g : Held). Shows w m n (unbroken k [] b) (stateAt [] (length y) k b q n) g)
     (sym (advance-ended l n (held (standing k at b q 1) (w ++ replicate m 0f)) (λ z. omega arith)))
     (record { buffer = rw (sub-zero m); state = rw h })
-closed y l (i ∷ r) {at} (link in-bounds g c) k q m n b w e lw lm =
+closed y l (i ∷ r) {at} (link g c) k q m n b w e lw lm =
     let first = ap (λ (j : Item). j .at) (here l k i r e) in
     subst (λ (j : Item). Shown (length y) l (j ∷ r) k at q m n 0 b w) (here l k i r e)
     (on-surface l r (length y) k at q m n b w lw (omega arith) first _ refl _ refl

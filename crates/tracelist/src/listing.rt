@@ -3,13 +3,13 @@ ghost use mathlib.Core.Path.{_≡_};
 ghost use Prim.Native.Nat.{_+_, _*_, _^_, _≤_, _<_};
 ghost use lib.Ieee.{toUnsigned};
 ghost use lib.ListN.{length};
-ghost use Rattle.lines.specs.Output.{ended};
 ghost use Rattle.trace.specs.Leg.{width};
 ghost use Rattle.trace.specs.Run.{mostRecords};
 ghost use Rattle.tracelist.specs.Listing.{recordLine, endLine, refusedLine, listing, filled};
 ghost use Rattle.tracelist.specs.Parts.{written, recordBytes, lastBytes, rowLines, recordsOf, stateLines};
 use lines::COUNT_BYTES;
 use lines::FLOAT_BYTES;
+use lines::end_line;
 use lines::put_count;
 use lines::put_float;
 use lines::put_floats;
@@ -129,17 +129,4 @@ fn put_end(out: &mut [u8], at: usize, outcome: u8, steps: usize, path: f64) -> u
     end = put_float(out, end, path);
     end_line(out, end);
     end
-}
-
-// The line feed takes the place of the space behind the last word.
-fn end_line(out: &mut [u8], end: usize)
-    ensures { λ _. ⌜ now (out .exit) ≡ ended (now (out .entry)) end ⌝ }
-{
-    if end == 0 {
-        return;
-    }
-    if end > out.len() {
-        return;
-    }
-    out[end - 1] = b'\n';
 }

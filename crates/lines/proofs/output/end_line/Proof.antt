@@ -1,9 +1,9 @@
--- Drafted (tools/draft): opens lines.Output.ended. By the tests and the calls, in order. Assumes nothing.
+-- Drafted (tools/draft): opens Output.ended. By the tests and the calls, in order. Assumes nothing.
 use borrow.Author.Needs.{needs}
 use borrow.Author.Tests.{eq-eqb, le-ltb, lt-ltb, ne-eqb}
 use Rattle.lines.specs.Output.{ended}
-use Rattle.tracelist.proofs.listing.end_line.Statement.{statement}
-use Rattle.tracelist.proofs.listing.end_line.Tie as tie
+use Rattle.lines.proofs.output.end_line.Statement.{statement}
+use Rattle.lines.proofs.output.end_line.Tie as tie
 
 pub end-line-spec : {M : Type 1} → statement M
 unfolding ended

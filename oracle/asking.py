@@ -3,6 +3,7 @@ answers."""
 import os
 import subprocess
 import sys
+import tempfile
 from pathlib import Path
 
 from fixed import SPACED, UNREADABLE, WORKED, is_written
@@ -26,10 +27,11 @@ def built_oracle(program="oracle"):
 
 def written_by(command, lines):
     """All that a program writes on these lines."""
-    questions = TARGET / "questions"
-    questions.write_text("\n".join(lines))
-    with questions.open() as stdin:
-        return subprocess.run(command, stdin=stdin, stdout=subprocess.PIPE, check=True).stdout.decode().splitlines()
+    with tempfile.TemporaryFile("w+") as questions:
+        questions.write("\n".join(lines))
+        questions.seek(0)
+        ran = subprocess.run(command, stdin=questions, stdout=subprocess.PIPE, check=True)
+    return ran.stdout.decode().splitlines()
 
 
 def ask(command, lines):

@@ -1,10 +1,8 @@
 -- Demand 1 for the public functions: the raw rules' numbers, and from these what is handed out. Assumes nothing.
 use Prim.Native.Nat.{ℕ, zero, suc}
 use mathlib.Core.Path.{_≡_, refl}
-use mathlib.Core.Bool.{Bool, true, false, _&&_, _||_, false≢true}
+use mathlib.Core.Bool.{Bool, true, false, _&&_}
 use mathlib.Core.List.{List, [], _∷_}
-use borrow.Author.Tests.{eqb-true}
-use lib.Dec.{eqb}
 use lib.Ieee.{Float}
 use lib.Ieee.Scale.{finite}
 use Rattle.numbers.specs.Arithmetic.{if_then_else_}
@@ -47,7 +45,7 @@ use Rattle.surfaces.specs.declared.surface.Kind.the-variants.{Conic, Eve
 use Rattle.surfaces.specs.declared.surface.Surface.{Surface}
 use Rattle.surfaces.specs.declared.surface.Boundary.{Boundary}
 use Rattle.surfaces.specs.declared.surface.Boundary.the-variants.{Mirror, Media}
-use Rattle.numbers.proofs.Choice.{either, both}
+use Rattle.numbers.proofs.Choice.{either}
 use Rattle.numbers.specs.Arithmetic.{oneOf}
 use Rattle.numbers.proofs.Lists.{every, each}
 

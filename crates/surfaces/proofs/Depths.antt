@@ -1,5 +1,5 @@
 -- The sags and slopes that the parts of the code speak of are the rules' own. Assumes nothing.
-use mathlib.Core.Path.{_≡_, refl, sym, ap, _∙_}
+use mathlib.Core.Path.{_≡_, refl, sym, _∙_}
 use mathlib.Core.Bool.{Bool, true, false, not, _&&_, _||_}
 use lib.Ieee.{Float}
 use lib.Ieee.Scale.{finite}

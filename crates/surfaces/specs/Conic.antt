@@ -1,5 +1,5 @@
 -- Conic surfaces: constructors, radius, sag, normal, and where a ray meets one. Definitions only.
-use mathlib.Core.Bool.{Bool, true, false, not, _&&_, _||_}
+use mathlib.Core.Bool.{Bool, not, _&&_, _||_}
 use mathlib.Core.List.{List, [], _∷_}
 use lib.Ieee.{Float, neg, isNan}
 use lib.Ieee.Scale.{finite}

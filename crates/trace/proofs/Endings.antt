@@ -2,7 +2,7 @@
 use Prim.Native.Nat.{ℕ}
 use mathlib.Core.Path.{_≡_, refl, sym, _∙_}
 use mathlib.Core.Bool.{Bool, true, false, not, _&&_, false≢true}
-use Rattle.numbers.specs.Arithmetic.{_+₆₄_, if_then_else_}
+use Rattle.numbers.specs.Arithmetic.{if_then_else_}
 use Rattle.surfaces.specs.Refusal.{Told, gives, refused, plain, done, after, stops}
 use Rattle.surfaces.specs.Surface.{turnAnswer}
 use Rattle.surfaces.specs.declared.types.Landing.{Landing}
@@ -11,7 +11,7 @@ use Rattle.surfaces.proofs.Stops.{turn-stops}
 use Rattle.recipe.specs.declared.record.Optic.{Optic}
 use Rattle.trace.specs.declared.leg.Beam.{Beam}
 use Rattle.trace.specs.declared.leg.Leg.{Leg}
-use Rattle.trace.specs.Leg.{noLeg, boundaryOf, share, legFinite, legOf}
+use Rattle.trace.specs.Leg.{noLeg, boundaryOf, legFinite, legAt, legOf}
 
 -- either an answer, or a number that stops
 abbrev pub Stops : {A : Type 0} → Told A → Type 0
@@ -43,16 +43,7 @@ module _ (x : Told Leg) where
 
 module _ (number : ℕ) (o : Optic) (b : Beam) (x : Told Landing) where
   abbrev gone : Landing → Leaving → Told Leg
-  gone l v =
-      gives
-      (record {
-        t = l .t;
-        point = l .point;
-        normal = v .normal;
-        direction = v .direction;
-        front = v .front;
-        path = b .path +₆₄ share number b (l .t);
-      })
+  gone l v = gives (legAt number b l v)
 
   abbrev turned : Landing → Told Leg
   turned l = after noLeg (turnAnswer (o .surface) (b .ray .direction) (l .point) (boundaryOf o (b .index))) (gone l)

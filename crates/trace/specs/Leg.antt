@@ -14,6 +14,7 @@ use Rattle.surfaces.specs.declared.types.Landing.{Landing}
 use Rattle.surfaces.specs.declared.refusal.Line.{Line}
 use Rattle.surfaces.specs.declared.surface.Boundary.{Boundary}
 use Rattle.surfaces.specs.declared.surface.Boundary.the-variants.{Mirror, Media}
+use Rattle.surfaces.specs.declared.surface.Leaving.{Leaving}
 use Rattle.recipe.specs.declared.record.Optic.{Optic}
 use Rattle.trace.specs.declared.leg.Beam.{Beam}
 use Rattle.trace.specs.declared.leg.Leg.{Leg}
@@ -34,21 +35,25 @@ unfoldable pub legFinite : Leg → Bool
 legFinite g =
     finite (g .t) && allFinite (g .point) && allFinite (g .normal) && allFinite (g .direction) && finite (g .path)
 
--- from where the passes on the surface of a number came to: normal, refraction or reflection, path, then 9
-unfoldable pub legOf : ℕ → Optic → Beam → Told Landing → Told Leg
-legOf number o b x =
-    checked9 noLeg legFinite
-    (after noLeg x (λ l.
-    after noLeg (turnAnswer (o .surface) (b .ray .direction) (l .point) (boundaryOf o (b .index))) (λ v.
-    gives
-    (record {
+-- a beam that landed on the surface of a number and went on from there
+abbrev pub legAt : ℕ → Beam → Landing → Leaving → Leg
+legAt number b l v =
+    record {
       t = l .t;
       point = l .point;
       normal = v .normal;
       direction = v .direction;
       front = v .front;
       path = b .path +₆₄ share number b (l .t);
-    }))))
+    }
+
+-- from where the passes on the surface of a number came to: normal, refraction or reflection, path, then 9
+unfoldable pub legOf : ℕ → Optic → Beam → Told Landing → Told Leg
+legOf number o b x =
+    checked9 noLeg legFinite
+    (after noLeg x (λ l.
+    after noLeg (turnAnswer (o .surface) (b .ray .direction) (l .point) (boundaryOf o (b .index))) (λ v.
+    gives (legAt number b l v))))
 
 -- the next ray leaves the point in the new direction
 unfoldable pub beamAfter : Optic → Beam → Leg → Beam

@@ -26,7 +26,7 @@ use Rattle.trace.proofs.Passes.{passes, passes-stop}
 use Rattle.tracelist.specs.Listing.{countIn, recordLine, recordLines}
 use Rattle.tracelist.specs.Parts.{rowLines, recordsOf}
 
--- a mark's record: 13 numbers, of which two hold its status and its steps
+-- a mark's record is as wide as all, and has its status and its steps in their slots
 pub record Marked (m : Mark) (status : ℕ) : Type 0 where
   pub wide : length (m .row) ≡ width
   pub status-is : countIn (m .row) 0 ≡ status

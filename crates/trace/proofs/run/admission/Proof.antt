@@ -4,6 +4,7 @@ use native.Mathlib.Omega.{arith}
 use borrow.Author.Tests.{lt-ltb, le-ltb}
 use lib.Ieee.{ofBits}
 use Rattle.numbers.specs.Arithmetic.{decimal}
+use Rattle.trace.specs.Leg.{width}
 use Rattle.trace.specs.Run.{admission}
 use Rattle.trace.proofs.run.admission.Statement.{statement}
 use Rattle.trace.proofs.run.admission.Tie as tie
@@ -28,7 +29,7 @@ admission-spec =
       ← c3 .is-finite .ensures,
       c2 .if1 .left,
       c1 .if2 .left,
-      lt-ltb (c4 .before .args .room) (13 * c4 .before .args .count) (let h = c .if3 .taken in omega arith),
+      lt-ltb (c4 .before .args .room) (width * c4 .before .args .count) (let h = c .if3 .taken in omega arith),
     ))
     (λ c.
     let c1 = c .before in let c2 = c1 .before in let c3 = c2 .before in let c4 = c3 .before in
@@ -37,5 +38,5 @@ admission-spec =
       ← c3 .is-finite .ensures,
       c2 .if1 .left,
       c1 .if2 .left,
-      le-ltb (c4 .before .args .room) (13 * c4 .before .args .count) (let h = c .if3 .left in omega arith),
+      le-ltb (c4 .before .args .room) (width * c4 .before .args .count) (let h = c .if3 .left in omega arith),
     )))

@@ -81,7 +81,7 @@ fn coefficients(v: &Values, at: usize, count: usize) -> Coefficients
 pub(crate) fn answer_odd(name: &[u8], v: &Values, before: usize, even: usize, odd: usize) -> Printed
     requires { ⌜ before + even + odd ≤ 64 ⌝ }
 {
-    let entry = look_up(name, b"odd_new 3 odd_sag 4 odd_normal 5");
+    let entry = look_up(name, b"odd_new 3 odd_sag 4 odd_normal 5 odd_intersect 10");
     if entry.numbers != before {
         return unreadable();
     }
@@ -89,16 +89,19 @@ pub(crate) fn answer_odd(name: &[u8], v: &Values, before: usize, even: usize, od
     if before < 3 {
         return unreadable();
     }
-    of_odd(entry.row, odd_at(v, before - 3, even, odd), v[0], v[1])
+    of_odd(entry.row, odd_at(v, before - 3, even, odd), v)
 }
 
-fn of_odd(row: u64, s: OddAsphere, x: f64, y: f64) -> Printed {
+fn of_odd(row: u64, s: OddAsphere, v: &Values) -> Printed {
     let even = s.even;
     let odd = s.odd;
+    let x = v[0];
+    let y = v[1];
     match row {
         0 => new_odd(OddAsphere::new(s.curvature, s.conic, even, odd, s.semi)),
         1 => sag(s.sag(x)),
-        _ => direction(s.normal(x, y)),
+        2 => direction(s.normal(x, y)),
+        _ => crossing(s.intersect_ray(ray(v), v[6])),
     }
 }
 

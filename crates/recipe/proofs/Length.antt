@@ -1,19 +1,21 @@
--- A record is read from 108 bytes at most, so that so many records are read from the first bytes. Assumes nothing.
+-- A record is read within the longest recipe, so that all records are read from its first bytes. Assumes nothing.
 use Prim.Native.Nat.{ℕ, zero, suc, _+_, _*_, _/_, _%_, _≤_, _<_}
 use native.Mathlib.Omega.{arith}
-use mathlib.Core.Path.{_≡_, refl}
-use mathlib.Core.Bool.{Bool, true, false, _&&_, and-false}
+use mathlib.Core.Path.{_≡_, refl, sym}
+use mathlib.Core.Bool.{Bool, true, false, _&&_, and-false, and-true}
 use mathlib.Core.List.{List}
 use lib.ListN.{length, take}
 use lib.Seq.{getD-take, length-take-le}
-use lib.Dec.{leb}
-use borrow.Author.Tests.{le-leb}
+use lib.Dec.{eqb, leb}
+use borrow.Author.Tests.{eqb-true, leb-true, leb-false, le-leb}
+use Rattle.numbers.specs.Arithmetic.{if_then_else_}
+use Rattle.surfaces.specs.declared.surface.Kind.the-variants.{Conic, Even, Odd, Biconic, Toroid}
 use Rattle.recipe.specs.Endian.{u16At, u64At, numberAt, numbersAt}
-use Rattle.recipe.specs.Record.{Read, bad, good, lengthAt, kindAt, slotAt, lengthFits, shapedAt, semiSlot, kindOf}
-use Rattle.recipe.specs.Record.{coefficientCount, coefficientsAt, opticAt, recordAt}
+use Rattle.recipe.specs.Record.{Read, bad, good, lengthAt, kindAt, endAt, slotAt, lengthFits, formedAt, longest}
+use Rattle.recipe.specs.Record.{shapedAt, semiSlot, kindOf, oddCount, evenCount, coefficientsAt, opticAt, recordAt}
 use Rattle.recipe.specs.Scan.{onRead, scan}
-use Rattle.recipe.specs.Length.{longest, RefusedAlike, TooLong}
-use Rattle.recipe.proofs.Shapes.{fits, shape}
+use Rattle.recipe.specs.Length.{Edge, RefusedAlike, TooLong}
+use Rattle.recipe.proofs.Shapes.{semi-least, semi-biconic, shape, ends-late, begins-late}
 use Rattle.recipe.proofs.Records.{good-inside}
 use Rattle.recipe.proofs.Scans.{scan-full, scan-record}
 
@@ -42,36 +44,56 @@ module _ (b : List ℕ) (n : ℕ) where
   unfolding slotAt
   slot-take at i h = number-take (at + 4 + 8 * i) (omega arith)
 
-  kind-take : (at kind : ℕ) → at + 52 ≤ n → kindOf kind (slotAt (take n b) at) ≡ kindOf kind (slotAt b at)
+  kind-take : (at kind : ℕ) → at + 12 + 8 * semiSlot kind ≤ n
+      → kindOf kind (slotAt (take n b) at) ≡ kindOf kind (slotAt b at)
   unfolding kindOf
   kind-take at kind h =
-      rw (
-        slot-take at 2 (omega arith),
-        slot-take at 3 (omega arith),
-        slot-take at 4 (omega arith),
-        slot-take at 5 (omega arith),
-      )
+      let l = semi-least kind in
+      rw (slot-take at 2 (omega arith), slot-take at 3 (omega arith), slot-take at 4 (omega arith))
+      (by (eqb kind 3) refl)
+    where
+      by : (t : Bool) → eqb kind 3 ≡ t
+          → (if eqb kind 1 then Conic (slotAt b at 2) (slotAt b at 3) else
+          if eqb kind 2 then Even (slotAt b at 2) (slotAt b at 3) else
+          if eqb kind 5 then Odd (slotAt b at 2) (slotAt b at 3) else
+          if t then Biconic (slotAt b at 2) (slotAt b at 3) (slotAt b at 4) (slotAt (take n b) at 5) else
+          Toroid (slotAt b at 2) (slotAt b at 3) (slotAt b at 4))
+          ≡ (if eqb kind 1 then Conic (slotAt b at 2) (slotAt b at 3) else
+          if eqb kind 2 then Even (slotAt b at 2) (slotAt b at 3) else
+          if eqb kind 5 then Odd (slotAt b at 2) (slotAt b at 3) else
+          if t then Biconic (slotAt b at 2) (slotAt b at 3) (slotAt b at 4) (slotAt b at 5) else
+          Toroid (slotAt b at 2) (slotAt b at 3) (slotAt b at 4))
+      by true e = let six = semi-biconic kind (eqb-true kind 3 e) in rw (slot-take at 5 (omega arith))
+      by false e = refl
 
-  module _ (at : ℕ) (h : at + 108 ≤ n) (k : n ≤ length b) where
-    -- a length that is too long is no kind's
+  module _ (at : ℕ) (h : longest < n) (k : n ≤ length b) where
     shaped-take : shapedAt (take n b) at ≡ shapedAt b at
-    unfolding shapedAt
-    shaped-take =
-        rw (u16-take at (omega arith), u16-take (at + 2) (omega arith), length-take-le n b k)
-        (by (lengthFits (kindAt b at % 256) (lengthAt b at)) refl)
+    unfolding shapedAt formedAt
+    shaped-take = by (leb (at + 4) n) refl
       where
-        by : (t : Bool) → lengthFits (kindAt b at % 256) (lengthAt b at) ≡ t
-            → (leb (at + 4) n && leb (at + 2 + lengthAt b at) n && leb (kindAt b at / 256) 1 && t)
-            ≡ (leb (at + 4) (length b) && leb (at + 2 + lengthAt b at) (length b) && leb (kindAt b at / 256) 1 && t)
-        by true e =
-            let f = fits (kindAt b at % 256) (lengthAt b at) e in
+        read : at + 4 ≤ n → (t : Bool) → leb (endAt b at) longest ≡ t
+            → (leb (at + 4) n && leb (endAt b at) n && leb (kindAt b at / 256) 1
+            && lengthFits (kindAt b at % 256) (lengthAt b at) && t)
+            ≡ (leb (at + 4) (length b) && leb (endAt b at) (length b) && leb (kindAt b at / 256) 1
+            && lengthFits (kindAt b at % 256) (lengthAt b at) && t)
+        read l true e =
+            let m = leb-true (endAt b at) longest e in
             rw (
-              le-leb (at + 4) n (omega arith),
-              le-leb (at + 2 + lengthAt b at) n (omega arith),
+              le-leb (at + 4) n l,
+              le-leb (endAt b at) n (omega arith),
               le-leb (at + 4) (length b) (omega arith),
-              le-leb (at + 2 + lengthAt b at) (length b) (omega arith),
+              le-leb (endAt b at) (length b) (omega arith),
             )
-        by false e = simp and-false
+        read l false e = simp and-false
+
+        by : (t : Bool) → leb (at + 4) n ≡ t → shapedAt (take n b) at ≡ shapedAt b at
+        by true e =
+            let l = leb-true (at + 4) n e in
+            rw (u16-take at (omega arith), u16-take (at + 2) (omega arith), length-take-le n b k)
+            (read l (leb (endAt b at) longest) refl)
+        by false e =
+            let l = leb-false (at + 4) n e in
+            rw (length-take-le n b k, e) (sym (begins-late b at (omega arith)))
 
     record-take : recordAt (take n b) at ≡ recordAt b at
     unfolding recordAt opticAt coefficientsAt
@@ -82,6 +104,7 @@ module _ (b : List ℕ) (n : ℕ) where
         by true e =
             let f = shape b at e refl refl in
             let kind = kindAt b at % 256 in
+            let even = evenCount kind (lengthAt b at) in
             rw (
               shaped-take,
               e,
@@ -92,56 +115,62 @@ module _ (b : List ℕ) (n : ℕ) where
               slot-take at 1 (omega arith),
               slot-take at 0 (omega arith),
               kind-take at kind (omega arith),
-              numbers-take (at + 44) (coefficientCount kind (lengthAt b at)) (omega arith),
+              numbers-take (at + 44) even (omega arith),
+              numbers-take (at + 44 + 8 * even) (oddCount kind) (omega arith),
             )
 
-module _ (b : List ℕ) (most : ℕ) (long : longest most < length b) where
+module _ (b : List ℕ) (most : ℕ) (long : longest < length b) where
   abbrev front : List ℕ
-  front = take (longest most + 1) b
+  front = take (longest + 1) b
 
   abbrev Alike : ℕ → ℕ → Type 0
-  Alike left at = RefusedAlike (scan b left at) (scan front left at) (longest most)
+  Alike left at = RefusedAlike (scan b left at) (scan front left at) longest
 
-  front-length : length front ≡ longest most + 1
-  front-length = length-take-le (longest most + 1) b (omega arith)
+  front-length : length front ≡ longest + 1
+  front-length = length-take-le (longest + 1) b (omega arith)
 
-  front-record : (left at : ℕ) → at + 108 ≤ longest most
+  front-record : (left at : ℕ) → at ≤ longest
       → scan front (suc left) at ≡ onRead (recordAt b at) at (scan front left)
   front-record left at h =
       rw (
         scan-record front left at (omega (arith, front-length)),
-        record-take b (longest most + 1) at (omega arith) (omega arith),
+        record-take b (longest + 1) at (omega arith) (omega arith),
       )
 
-  alike : (left at : ℕ) → at + longest left ≤ longest most → Alike left at
+  alike : (left at : ℕ) → at ≤ longest → Alike left at
   alike zero at h = record {
     number = 10;
     place = at;
     one = scan-full b at (omega arith);
     other = scan-full front at (omega (arith, front-length));
-    within = omega arith;
+    within = h;
   }
   alike (suc left) at h = by (recordAt b at) refl (alike left)
     where
-      by : (r : Read) → recordAt b at ≡ r → ((next : ℕ) → next + longest left ≤ longest most → Alike left next)
-          → Alike (suc left) at
+      by : (r : Read) → recordAt b at ≡ r → ((next : ℕ) → next ≤ longest → Alike left next) → Alike (suc left) at
       by (bad n) e go = record {
         number = n;
         place = at;
         one = rw (scan-record b left at (omega arith), e);
-        other = rw (front-record left at (omega arith), e);
-        within = omega arith;
+        other = rw (front-record left at h, e);
+        within = h;
       }
       by (good o next) e go =
-          let i = good-inside b at e in
-          let q = go next (omega arith) in
+          let q = go next (good-inside b at e .2) in
           record {
             number = q .number;
             place = q .place;
             one = rw (scan-record b left at (omega arith), e, q .one);
-            other = rw (front-record left at (omega arith), e, q .other);
+            other = rw (front-record left at h, e, q .other);
             within = q .within;
           }
 
 pub too-long : TooLong
 too-long b most h = alike b most h most 0 (omega arith)
+
+pub edge : Edge
+unfolding shapedAt recordAt
+edge = record {
+  last = λ b at e. rw e (and-true (formedAt b at));
+  past = λ b at e. rw (ends-late b at (omega arith));
+}

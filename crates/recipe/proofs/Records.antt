@@ -15,8 +15,8 @@ use Rattle.numbers.specs.Arithmetic.{oneOf}
 use Rattle.numbers.proofs.Choice.{either}
 use Rattle.recipe.specs.declared.record.Optic.{Optic}
 use Rattle.recipe.specs.Endian.{numbersAt}
-use Rattle.recipe.specs.Record.{Read, bad, good, lengthAt, kindAt, slotAt, shapedAt, semiSlot, opticAt}
-use Rattle.recipe.specs.Record.{negativeSemi, recordAt, readAt}
+use Rattle.recipe.specs.Record.{Read, bad, good, lengthAt, kindAt, endAt, slotAt, longest, shapedAt}
+use Rattle.recipe.specs.Record.{semiSlot, opticAt, negativeSemi, recordAt, readAt}
 use Rattle.recipe.proofs.Numbers.{finite-at}
 use Rattle.recipe.proofs.Shapes.{shape}
 
@@ -25,7 +25,7 @@ record Accepted (b : List ℕ) (at : ℕ) (o : Optic) (next : ℕ) : Type 0 wher
   pub numbers : everyFinite (numbersAt b (at + 4) (lengthAt b at / 8)) ≡ true
   pub index : (slotAt b at 1 ≤₆₄ 0f) ≡ false
   pub optic : o ≡ opticAt b at
-  pub end : next ≡ at + 2 + lengthAt b at
+  pub end : next ≡ endAt b at
 
 not-good : {n : ℕ} {o : Optic} {next : ℕ} → bad n ≡ good o next → ⊥
 not-good e = let z : _≡_ {A = ℕ} 0 1 = cc in omega arith
@@ -48,7 +48,7 @@ module _ (b : List ℕ) (at : ℕ) where
       if not shaped then bad 10 else
       if not numbers then bad 2 else
       if semi then bad (negativeSemi (kindAt b at % 256)) else
-      if index then bad 4 else good (opticAt b at) (at + 2 + lengthAt b at)
+      if index then bad 4 else good (opticAt b at) (endAt b at)
 
   accepted : {o : Optic} {next : ℕ} → recordAt b at ≡ good o next → Accepted b at o next
   unfolding recordAt
@@ -65,7 +65,7 @@ module _ (b : List ℕ) (at : ℕ) where
       by true t true u false false w e = record { shaped = t; numbers = u; index = w; optic = cc; end = cc }
 
   module _ {o : Optic} {next : ℕ} (h : recordAt b at ≡ good o next) where
-    pub good-inside : (at + 44 ≤ next) × (next ≤ length b) × (next ≤ at + 108)
+    pub good-inside : (at + 44 ≤ next) × (next ≤ length b) × (next ≤ longest)
     good-inside =
         let a = accepted h in
         let f = shape b at (a .shaped) refl refl in

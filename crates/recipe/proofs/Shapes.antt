@@ -1,8 +1,8 @@
 -- What the shape of a record tells of its places: all that is read of it lies within it, and it within the recipe.
 -- Assumes nothing.
-use Prim.Native.Nat.{ℕ, _+_, _-_, _*_, _/_, _%_, _≤_}
+use Prim.Native.Nat.{ℕ, _+_, _-_, _*_, _/_, _%_, _≤_, _<_}
 use mathlib.Core.Path.{_≡_, refl}
-use mathlib.Core.Bool.{Bool, true, false, _&&_}
+use mathlib.Core.Bool.{Bool, true, false, _&&_, and-false}
 use mathlib.Core.List.{List}
 use native.Mathlib.Omega.{arith}
 use lib.ListN.{length}
@@ -11,20 +11,23 @@ use borrow.Author.Tests.{leb-true, leb-false, eqb-true, le-leb, lt-leb}
 use Rattle.numbers.specs.Arithmetic.{if_then_else_}
 use Rattle.numbers.proofs.Choice.{either, both}
 use Rattle.recipe.specs.Source.{sourceBytes, isSource}
-use Rattle.recipe.specs.Record.{lengthAt, kindAt, lengthFits, shapedAt, semiSlot, coefficientCount}
+use Rattle.recipe.specs.Record.{lengthAt, kindAt, endAt, lengthFits, formedAt, longest, shapedAt, semiSlot}
+use Rattle.recipe.specs.Record.{oddCount, evenCount}
 
 -- a length that a kind has, and what it has room for
 pub record Fitting (kind len : ℕ) : Type 0 where
   pub least : 42 ≤ len
-  pub most : len ≤ 106
+  pub most : len ≤ 170
   pub numbers : 2 + 8 * (len / 8) ≤ len
   pub semi : 10 + 8 * semiSlot kind ≤ len
-  pub count : coefficientCount kind len ≤ 8
-  pub terms : 42 + 8 * coefficientCount kind len ≤ len
+  pub even : evenCount kind len ≤ 8
+  pub odd : oddCount kind ≤ 8
+  pub terms : 42 + 8 * evenCount kind len + 8 * oddCount kind ≤ len
 
 -- a record at a place of so many bytes
 pub record Shape (n at kind len : ℕ) : Type 0 where
   pub inside : at + 2 + len ≤ n
+  pub end : at + 2 + len ≤ longest
   pub fitting : Fitting kind len
 
 -- every kind has four numbers before its semi-diameter, and a biconic has six
@@ -45,49 +48,72 @@ room-test n at k h = by (leb (at + 2 + k) n) refl
     by true e = le-leb (2 + k) (n - at) (omega (arith, leb-true (at + 2 + k) n e))
     by false e = lt-leb (2 + k) (n - at) (omega (arith, leb-false (at + 2 + k) n e))
 
--- so many coefficients fit a length
-abbrev Room : ℕ → ℕ → Type 0
-Room len n = (n ≤ 8) × (42 + 8 * n ≤ len)
-
-fitting : (kind len : ℕ) → 42 ≤ len → len ≤ 106 → len % 8 ≡ 2 → 10 + 8 * semiSlot kind ≤ len → Fitting kind len
-unfolding coefficientCount
-fitting kind len l m e s =
-    let n = either (Room len) (eqb kind 2) (len / 8 - 5) 0 (omega arith, omega arith) (omega arith, l) in
-    record { least = l; most = m; numbers = omega arith; semi = s; count = n .0; terms = n .1 }
+-- a length of whole numbers that has room for a kind's
+fitting : (kind len : ℕ) → 42 ≤ len → len ≤ 170 → len % 8 ≡ 2 → 10 + 8 * semiSlot kind ≤ len
+    → (evenCount kind len ≤ 8) × (oddCount kind ≤ 8) × (42 + 8 * evenCount kind len + 8 * oddCount kind ≤ len)
+    → Fitting kind len
+fitting kind len l m e s n =
+    record { least = l; most = m; numbers = omega arith; semi = s; even = n .0; odd = n .1; terms = n .2 }
 
 pub fits : (kind len : ℕ) → lengthFits kind len ≡ true → Fitting kind len
-unfolding lengthFits semiSlot
-fits kind len = by (eqb kind 1) refl (eqb kind 2) refl (eqb kind 3) refl
+unfolding lengthFits semiSlot evenCount oddCount
+fits kind len = by (eqb kind 1) refl (eqb kind 2) refl (eqb kind 3) refl (eqb kind 4) refl
   where
     by : (t : Bool) → eqb kind 1 ≡ t → (u : Bool) → eqb kind 2 ≡ u → (v : Bool) → eqb kind 3 ≡ v
+        → (w : Bool) → eqb kind 4 ≡ w
         → (if t then eqb len 42 else
         if u then leb 42 len && leb len 106 && eqb (len % 8) 2 else
-        if v then eqb len 58 else eqb kind 4 && eqb len 50) ≡ true
+        if v then eqb len 58 else
+        if w then eqb len 50 else eqb kind 5 && eqb len 170) ≡ true
         → Fitting kind len
-    by true t u _ v _ h = rw (eqb-true kind 1 t, eqb-true len 42 h) (fitting 1 42 (lit≤ tt) (lit≤ tt) refl (lit≤ tt))
-    by false _ true u v _ h =
+    by true t u _ v _ w _ h =
+        rw (eqb-true kind 1 t, eqb-true len 42 h)
+        (fitting 1 42 (lit≤ tt) (lit≤ tt) refl (lit≤ tt) (lit≤ tt, lit≤ tt, lit≤ tt))
+    by false _ true u v _ w _ h =
         let p = both (leb 42 len && leb len 106) _ h in
         let q = both (leb 42 len) _ (p .0) in
         let l = leb-true 42 len (q .0) in
-        rw (eqb-true kind 2 u) (fitting 2 len l (leb-true len 106 (q .1)) (eqb-true (len % 8) 2 (p .1)) l)
-    by false _ false _ true v h =
-        rw (eqb-true kind 3 v, eqb-true len 58 h) (fitting 3 58 (lit≤ tt) (lit≤ tt) refl (lit≤ tt))
-    by false _ false _ false _ h =
-        let p = both (eqb kind 4) _ h in
-        rw (eqb-true kind 4 (p .0), eqb-true len 50 (p .1)) (fitting 4 50 (lit≤ tt) (lit≤ tt) refl (lit≤ tt))
+        let m = leb-true len 106 (q .1) in
+        let e = eqb-true (len % 8) 2 (p .1) in
+        rw (eqb-true kind 2 u) (fitting 2 len l (omega arith) e l (omega arith, omega arith, omega arith))
+    by false _ false _ true v w _ h =
+        rw (eqb-true kind 3 v, eqb-true len 58 h)
+        (fitting 3 58 (lit≤ tt) (lit≤ tt) refl (lit≤ tt) (lit≤ tt, lit≤ tt, lit≤ tt))
+    by false _ false _ false _ true w h =
+        rw (eqb-true kind 4 w, eqb-true len 50 h)
+        (fitting 4 50 (lit≤ tt) (lit≤ tt) refl (lit≤ tt) (lit≤ tt, lit≤ tt, lit≤ tt))
+    by false _ false _ false _ false _ h =
+        let p = both (eqb kind 5) _ h in
+        rw (eqb-true kind 5 (p .0), eqb-true len 170 (p .1))
+        (fitting 5 170 (lit≤ tt) (lit≤ tt) refl (lit≤ tt) (lit≤ tt, lit≤ tt, lit≤ tt))
 
 pub shape : (b : List ℕ) (at : ℕ) {len kind : ℕ} → shapedAt b at ≡ true → len ≡ lengthAt b at → kind ≡ kindAt b at
     → Shape (length b) at (kind % 256) len
-unfolding shapedAt
+unfolding shapedAt formedAt
 shape b at h l k =
-    let p = both _ (lengthFits (kindAt b at % 256) (lengthAt b at)) h in
+    let o = both _ (leb (endAt b at) longest) h in
+    let p = both _ (lengthFits (kindAt b at % 256) (lengthAt b at)) (o .0) in
     let q = both _ (leb (kindAt b at / 256) 1) (p .0) in
     let r = both (leb (at + 4) (length b)) _ (q .0) in
     rw (l, k)
     (record {
-      inside = leb-true (at + 2 + lengthAt b at) (length b) (r .1);
+      inside = leb-true (endAt b at) (length b) (r .1);
+      end = leb-true (endAt b at) longest (o .1);
       fitting = fits (kindAt b at % 256) (lengthAt b at) (p .1);
     })
+
+-- a record that ends past the longest recipe has no shape, nor has one whose kind stands there
+pub ends-late : (b : List ℕ) (at : ℕ) → longest < endAt b at → shapedAt b at ≡ false
+unfolding shapedAt
+ends-late b at h = rw (lt-leb (endAt b at) longest h) (and-false (formedAt b at))
+
+pub begins-late : (b : List ℕ) (at : ℕ) → longest < at + 4 → shapedAt b at ≡ false
+unfolding shapedAt formedAt
+begins-late b at h = by (lengthFits (kindAt b at % 256) (lengthAt b at)) refl
+  where
+    by : (t : Bool) → lengthFits (kindAt b at % 256) (lengthAt b at) ≡ t → shapedAt b at ≡ false
+    by true e = let f = fits (kindAt b at % 256) (lengthAt b at) e in ends-late b at (omega arith)
+    by false e = rw e (simp and-false)
 
 pub source-room : (b : List ℕ) → isSource b ≡ true → sourceBytes ≤ length b
 unfolding isSource

@@ -3,7 +3,7 @@ ghost use mathlib.Core.Path.{_≡_};
 ghost use mathlib.Core.Bool.{true};
 ghost use lib.ListN.{length};
 ghost use Prim.Native.Nat.{_+_, _*_, _≤_};
-ghost use Rattle.recipe.specs.Record.{slotAt, lengthFits, shapedAt, semiSlot, kindOf, coefficientCount};
+ghost use Rattle.recipe.specs.Record.{slotAt, lengthFits, shapedAt, semiSlot, kindOf, oddCount, evenCount};
 ghost use Rattle.recipe.specs.Record.{coefficientsAt, opticAt, readAt, noOptic};
 use crate::endian::NUMBER_BYTES;
 use crate::endian::number_at;
@@ -12,8 +12,9 @@ use surfaces::ACCEPTED;
 use surfaces::Coefficients;
 use surfaces::Kind;
 use surfaces::MOST_COEFFICIENTS;
+use surfaces::Polynomial;
 use surfaces::Surface;
-use surfaces::no_coefficients;
+use surfaces::no_polynomial;
 
 // The table's number for what is no record (SCOPE T1).
 pub const MALFORMED: u8 = 10;
@@ -33,6 +34,8 @@ pub const KIND_BICONIC: usize = 3;
 
 pub const KIND_TOROID: usize = 4;
 
+pub const KIND_ODD_ASPHERE: usize = 5;
+
 // A mirror's kind is the surface's and this.
 pub const KIND_MIRROR: usize = 256;
 
@@ -47,8 +50,10 @@ const LENGTH_TOROID: usize = 50;
 
 const LONGEST_EVEN_ASPHERE: usize = LENGTH_EVEN_ASPHERE + NUMBER_BYTES * MOST_COEFFICIENTS;
 
-// How many bytes the longest record takes.
-pub const LONGEST_RECORD: usize = LENGTH_BYTES + LONGEST_EVEN_ASPHERE;
+const LENGTH_ODD_ASPHERE: usize = LONGEST_EVEN_ASPHERE + NUMBER_BYTES * MOST_COEFFICIENTS;
+
+// How many bytes a recipe has at most.
+pub const MOST_RECIPE_BYTES: usize = 65536;
 
 // The slots of its numbers: vertex z, the index after, two to four of the kind's own.
 const VERTEX: usize = 0;
@@ -72,7 +77,7 @@ const SEMI_TOROID: usize = LENGTH_TOROID / NUMBER_BYTES - 1;
 
 const COEFFICIENTS: usize = LENGTH_EVEN_ASPHERE / NUMBER_BYTES;
 
-// Where they begin, from the record's place on.
+// Where they begin, from the record's place on, those of even powers first.
 const COEFFICIENTS_PLACE: usize = LENGTH_BYTES + LENGTH_EVEN_ASPHERE;
 
 // A surface, and the index behind it, which a mirror does not use.
@@ -111,14 +116,20 @@ fn length_fits(kind: usize, len: usize) -> bool
     if kind == KIND_BICONIC {
         return len == LENGTH_BICONIC;
     }
-    (kind == KIND_TOROID) & (len == LENGTH_TOROID)
+    if kind == KIND_TOROID {
+        return len == LENGTH_TOROID;
+    }
+    (kind == KIND_ODD_ASPHERE) & (len == LENGTH_ODD_ASPHERE)
 }
 
-// Whether a record is whole, and its length one that its kind has.
+// Whether a record is whole, its length one that its kind has, and its end within the longest recipe.
 pub(crate) fn is_shaped(s: &[u8], at: usize) -> bool
     ensures { λ r. ⌜ r ≡ shapedAt (now (s .entry)) at ⌝ }
 {
     if s.len() < at {
+        return false;
+    }
+    if MOST_RECIPE_BYTES < at {
         return false;
     }
     let room = s.len() - at;
@@ -127,7 +138,10 @@ pub(crate) fn is_shaped(s: &[u8], at: usize) -> bool
     }
     let len = u16_at(s, at);
     let kind = u16_at(s, at + LENGTH_BYTES);
-    (LENGTH_BYTES + len <= room) & (kind / KIND_MIRROR <= 1) & length_fits(kind % KIND_MIRROR, len)
+    (LENGTH_BYTES + len <= room)
+        & (kind / KIND_MIRROR <= 1)
+        & length_fits(kind % KIND_MIRROR, len)
+        & (at + LENGTH_BYTES + len <= MOST_RECIPE_BYTES)
 }
 
 pub(crate) fn semi_slot(kind: usize) -> usize
@@ -155,6 +169,9 @@ pub(crate) fn kind_at(s: &[u8], at: usize, kind: usize) -> Kind
     if kind == KIND_EVEN_ASPHERE {
         return Kind::Even { c: a, k: b };
     }
+    if kind == KIND_ODD_ASPHERE {
+        return Kind::Odd { c: a, k: b };
+    }
     let c = slot(s, at, THIRD);
     if kind == KIND_BICONIC {
         return Kind::Biconic {
@@ -171,14 +188,24 @@ pub(crate) fn kind_at(s: &[u8], at: usize, kind: usize) -> Kind
     }
 }
 
-fn coefficient_count(kind: usize, len: usize) -> usize
+fn odd_count(kind: usize) -> usize
+    ensures { λ r. ⌜ r ≡ oddCount kind ⌝ }
+{
+    if kind == KIND_ODD_ASPHERE {
+        MOST_COEFFICIENTS
+    } else {
+        0
+    }
+}
+
+fn even_count(kind: usize, len: usize) -> usize
     requires { ⌜ 42 ≤ len ⌝ }
-    ensures { λ r. ⌜ r ≡ coefficientCount kind len ⌝ }
+    ensures { λ r. ⌜ r ≡ evenCount kind len ⌝ }
 {
     if kind == KIND_EVEN_ASPHERE {
         len / NUMBER_BYTES - COEFFICIENTS
     } else {
-        0
+        odd_count(kind)
     }
 }
 
@@ -202,11 +229,17 @@ fn optic_at(s: &[u8], at: usize) -> Optic
     let len = u16_at(s, at);
     let whole = u16_at(s, at + LENGTH_BYTES);
     let kind = whole % KIND_MIRROR;
+    let even = even_count(kind, len);
+    let first = at + COEFFICIENTS_PLACE;
+    let polynomial = Polynomial {
+        even: coefficients_at(s, first, even),
+        odd: coefficients_at(s, first + NUMBER_BYTES * even, odd_count(kind)),
+    };
     let surface = Surface {
         vertex: slot(s, at, VERTEX),
         semi: slot(s, at, semi_slot(kind)),
         kind: kind_at(s, at, kind),
-        coefficients: coefficients_at(s, at + COEFFICIENTS_PLACE, coefficient_count(kind, len)),
+        polynomial,
     };
     Optic {
         surface,
@@ -222,7 +255,7 @@ fn no_optic() -> Optic
         vertex: 0.0,
         semi: 0.0,
         kind: Kind::Conic { c: 0.0, k: 0.0 },
-        coefficients: no_coefficients(),
+        polynomial: no_polynomial(),
     };
     Optic {
         surface,

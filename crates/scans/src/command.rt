@@ -11,8 +11,8 @@ use surfaces::Ray;
 use trace::Beam;
 use trace::State;
 
-// The most bytes that a recipe has, and the most numbers that there is room for.
-pub const LONGEST: usize = 65536;
+// The most bytes that a recipe has, as many as a line spells, and the most numbers that there is room for.
+pub const LONGEST: usize = 65596;
 
 pub const WIDEST: usize = 8192;
 

@@ -17,9 +17,9 @@ use Rattle.surfaces.specs.Newton.{limitedPass}
 use Rattle.surfaces.specs.Sags.{edgeRoot}
 use Rattle.surfaces.specs.Asphere.{baseSag, baseSlope, evenSag, evenSlope, evenFacing, evenNormal, newEvenAnswer}
 use Rattle.surfaces.specs.Asphere.{evenSagAnswer, evenSlopeAnswer, evenNormalAnswer, evenParaxialAnswer}
-use Rattle.surfaces.specs.Asphere.{evenCrossingAnswer, oddSag, oddBaseSlope, oddSlope, oddNormal, newOddAnswer}
-use Rattle.surfaces.specs.Asphere.{oddSagAnswer, oddNormalAnswer}
-use Rattle.surfaces.specs.Biconic.{biconicSag, biconicSlopesAt, biconicSlopes, normalOf, biconicNormal}
+use Rattle.surfaces.specs.Asphere.{evenCrossingAnswer, oddSag, oddBaseSlope, oddSlope, oddSlopesAt, oddNormal}
+use Rattle.surfaces.specs.Asphere.{normalOf, newOddAnswer, oddSagAnswer, oddNormalAnswer, oddCrossingAnswer}
+use Rattle.surfaces.specs.Biconic.{biconicSag, biconicSlopesAt, biconicSlopes, biconicNormal}
 use Rattle.surfaces.specs.Biconic.{newBiconicAnswer, biconicSagAnswer, biconicSlopesAnswer, biconicNormalAnswer}
 use Rattle.surfaces.specs.Biconic.{biconicCrossingAnswer, biconicGood, biconicParaxialAnswer, circleSag}
 use Rattle.surfaces.specs.Biconic.{toroidSag, circleSlopes, toroidSlopes, toroidNormal, newToroidAnswer}
@@ -32,6 +32,7 @@ use Rattle.surfaces.specs.declared.types.Ray.{Ray}
 use Rattle.surfaces.specs.declared.types.Landing.{Landing}
 use Rattle.surfaces.specs.declared.types.Meridians.{Meridians}
 use Rattle.surfaces.specs.declared.types.Coefficients.{Coefficients}
+use Rattle.surfaces.specs.declared.types.Polynomial.{Polynomial}
 use Rattle.surfaces.specs.declared.refusal.Line.{Line}
 use Rattle.surfaces.specs.declared.refusal.Refusal.{Refusal}
 use Rattle.surfaces.specs.declared.refusal.Refusal.the-variants.{InvalidParameter, InvalidSurface}
@@ -41,7 +42,7 @@ use Rattle.surfaces.specs.declared.refusal.Refusal.the-variants.{TotalIn
 use Rattle.surfaces.specs.declared.conic.ConicSurface.{ConicSurface}
 use Rattle.surfaces.specs.declared.biconic.BiconicSurface.{BiconicSurface}
 use Rattle.surfaces.specs.declared.surface.Kind.{Kind}
-use Rattle.surfaces.specs.declared.surface.Kind.the-variants.{Conic, Even, Biconic, Toroid}
+use Rattle.surfaces.specs.declared.surface.Kind.the-variants.{Conic, Even, Odd, Biconic, Toroid}
 use Rattle.surfaces.specs.declared.surface.Surface.{Surface}
 use Rattle.surfaces.specs.declared.surface.Boundary.{Boundary}
 use Rattle.surfaces.specs.declared.surface.Boundary.the-variants.{Mirror, Media}
@@ -137,6 +138,10 @@ even-slope : (c k : Float) (a : Coefficients) (r : Float) → Within (1 ∷ 2 �
 unfolding evenSlope baseSlope oneOf
 even-slope c k a r = within (search (either-tells, edge-root) depth 8)
 
+odd-slopes : (c k : Float) (a : Polynomial) (x y r : Float) → Within (1 ∷ 5 ∷ []) (oddSlopesAt c k a x y r .line)
+unfolding oddSlopesAt oddSlope oddBaseSlope oneOf
+odd-slopes c k a x y r = within (search (either-tells, edge-root) depth 10)
+
 biconic-slopes : (cx kx cy ky x y : Float) → Within (1 ∷ 4 ∷ 5 ∷ []) (biconicSlopes cx kx cy ky x y .line)
 unfolding biconicSlopes biconicSlopesAt oneOf
 biconic-slopes cx kx cy ky x y = within (search (either-tells, edge-root))
@@ -146,9 +151,10 @@ unfolding toroidSlopes circleSlopes oneOf
 toroid-slopes rx cy ky x y = within (search (either-tells, edge-root))
 
 normal : (k : Kind) (s : Surface) (p : Vec3) → Within (1 ∷ 2 ∷ 4 ∷ 5 ∷ []) (normalBy k s p .line)
-unfolding normalAt evenNormal evenFacing biconicNormal toroidNormal normalOf oneOf
+unfolding normalAt evenNormal evenFacing oddNormal biconicNormal toroidNormal normalOf oneOf
 normal (Conic c k) s p = within (search (either-tells, conic-normal))
 normal (Even c k) s p = within (search (either-tells, even-slope))
+normal (Odd c k) s p = within (search (either-tells, odd-slopes))
 normal (Biconic cx kx cy ky) s p = within (search (either-tells, biconic-slopes))
 normal (Toroid rx cy ky) s p = within (search (either-tells, toroid-slopes))
 
@@ -198,6 +204,7 @@ ruleset tells = (
   newton,
   edge-root,
   even-slope,
+  odd-slopes,
   biconic-slopes,
   toroid-slopes,
   normal,
@@ -209,8 +216,8 @@ ruleset tells = (
 pub demand-1 : Demand1
 unfolding reflectAnswer refractAnswer fromRadiusAnswer fromCurvatureAnswer conicSag conicSagAnswer conicNormalAnswer
     normalAt conicMeet conicMeetAnswer baseSag newEvenAnswer evenSag evenSagAnswer evenSlopeAnswer evenNormal evenFacing
-    evenNormalAnswer evenParaxialAnswer evenCrossingAnswer newOddAnswer oddSag oddSagAnswer oddBaseSlope oddSlope
-    oddNormal oddNormalAnswer normalOf newBiconicAnswer biconicSag biconicSagAnswer biconicSlopesAnswer biconicNormal
+    evenNormalAnswer evenParaxialAnswer evenCrossingAnswer newOddAnswer oddSag oddSagAnswer
+    oddNormal oddNormalAnswer oddCrossingAnswer normalOf newBiconicAnswer biconicSag biconicSagAnswer biconicSlopesAnswer biconicNormal
     biconicNormalAnswer biconicCrossingAnswer newToroidAnswer toroidSag circleSag toroidSagAnswer toroidSlopesAnswer
     toroidNormal toroidNormalAnswer toroidCrossingAnswer passAnswer surfaceNormal turnAnswer oneOf
 demand-1 = record {
@@ -230,6 +237,7 @@ demand-1 = record {
   odd-new = search tells depth 10;
   odd-sag = search tells depth 10;
   odd-normal = search tells depth 10;
+  odd-intersect-ray = search tells depth 10;
   biconic-new = search tells depth 10;
   biconic-sag = search tells depth 10;
   biconic-derivatives = search tells depth 10;

@@ -14,13 +14,13 @@ use Rattle.surfaces.specs.Asphere.{oddBaseSlope, oddSlope}
 use Rattle.surfaces.specs.Biconic.{numeratorOf, biconicRadicand, biconicSag, baseCurveRadicand, baseCurveSag}
 use Rattle.surfaces.specs.Biconic.{circleSag, toroidSag}
 use Rattle.surfaces.specs.Parts.{Depths, depths, noDepths, noDepth, sagOf, baseRoot, baseSagFrom, baseSlopeFrom}
-use Rattle.surfaces.specs.Parts.{oddBaseSlopeFrom, evenDepth, evenSlopeFrom, biconicDepth, circleDepth}
-use Rattle.surfaces.specs.Parts.{toroidDepth, shapeOf, depthOf}
+use Rattle.surfaces.specs.Parts.{evenDepth, evenSlopeFrom, oddDepth, oddBaseSlopeFrom, oddSlopeFrom}
+use Rattle.surfaces.specs.Parts.{biconicDepth, circleDepth, toroidDepth, shapeOf, depthOf}
 use Rattle.surfaces.specs.declared.types.Vec3.{Vec3}
 use Rattle.surfaces.specs.declared.types.Coefficients.{Coefficients}
-use Rattle.surfaces.specs.declared.asphere.OddAsphere.{OddAsphere}
+use Rattle.surfaces.specs.declared.types.Polynomial.{Polynomial}
 use Rattle.surfaces.specs.declared.newton.Profile.{Profile}
-use Rattle.surfaces.specs.declared.newton.Profile.the-variants.{Even, Biconic, Toroid}
+use Rattle.surfaces.specs.declared.newton.Profile.the-variants.{Even, Odd, Biconic, Toroid}
 
 -- what follows an answer that itself followed one
 follows : {A B C : Type 0} (x : B) (y : C) (t : Told A) (f : A → Told B) (g : B → Told C) →
@@ -52,7 +52,7 @@ base-sag : (c k r2 : Float) (f : Float → Float) →
 unfolding baseRoot baseSagFrom baseSag
 base-sag c k r2 f = sag-from (magnitude c <₆₄ 1e-15) _ (λ s. (c *₆₄ r2) /₆₄ (1f +₆₄ s)) f
 
--- the slope of an even asphere, and the sag and the slope of an odd one, from the base's root
+-- the slopes of both aspheres, from the base's root
 pub even-slope : (c k : Float) (a : Coefficients) (r : Float) →
     evenSlope c k a r ≡
     (if not (finite r) || (r <₆₄ 0f) then noNumber 2 else after 0f (baseRoot c k (r *₆₄ r)) (evenSlopeFrom c a r))
@@ -61,28 +61,13 @@ even-slope c k a r =
     rw (slope-from (magnitude c <₆₄ 1e-15) _ (λ s. if s ≤₆₄ 1e-15 then noNumber 4 else gives ((c *₆₄ r) /₆₄ s))
     (λ base. gives (base +₆₄ slopeSum (terms a) 2f r (r *₆₄ r))))
 
-pub odd-sag : (s : OddAsphere) (r : Float) →
-    oddSag s r ≡
-    (if not (finite r) || (r <₆₄ 0f) then noNumber 2 else
-    after 0f (baseRoot (s .curvature) (s .conic) (r *₆₄ r)) (λ t.
-    gives (baseSagFrom (s .curvature) (r *₆₄ r) t +₆₄ powerSum (terms (s .even)) (r *₆₄ r) (r *₆₄ r)
-    +₆₄ powerSum (terms (s .odd)) r (r *₆₄ r))))
-unfolding oddSag
-odd-sag s r =
+pub odd-slope : (c k : Float) (a : Polynomial) (r : Float) →
+    oddSlope c k a r ≡ after 0f (baseRoot c k (r *₆₄ r)) (λ s. gives (oddSlopeFrom c a r s))
+unfolding oddSlope oddBaseSlope baseRoot oddSlopeFrom oddBaseSlopeFrom
+odd-slope c k a r =
     let r2 = r *₆₄ r in
-    rw (base-sag (s .curvature) (s .conic) r2 (λ base.
-    base +₆₄ powerSum (terms (s .even)) r2 r2 +₆₄ powerSum (terms (s .odd)) r r2))
-
-pub odd-slope : (s : OddAsphere) (r : Float) →
-    oddSlope s r ≡
-    after 0f (baseRoot (s .curvature) (s .conic) (r *₆₄ r)) (λ t.
-    gives (oddBaseSlopeFrom (s .curvature) r t +₆₄ slopeSum (terms (s .even)) 2f r (r *₆₄ r)
-    +₆₄ slopeSum (terms (s .odd)) 1f 1f (r *₆₄ r)))
-unfolding oddSlope oddBaseSlope baseRoot oddBaseSlopeFrom
-odd-slope s r =
-    let r2 = r *₆₄ r in
-    sym (sag-from (magnitude (s .curvature) <₆₄ 1e-15) _ (λ t. (s .curvature *₆₄ r) /₆₄ larger t 1e-15) (λ base.
-    base +₆₄ slopeSum (terms (s .even)) 2f r r2 +₆₄ slopeSum (terms (s .odd)) 1f 1f r2))
+    sym (sag-from (magnitude c <₆₄ 1e-15) _ (λ s. (c *₆₄ r) /₆₄ larger s 1e-15) (λ base.
+    base +₆₄ slopeSum (terms (a .even)) 2f r r2 +₆₄ slopeSum (terms (a .odd)) 1f 1f r2))
 
 -- the sag of what followed a root
 sag-after : (t : Told Float) (f : Float → Told Depths) (g : Float → Told Float) → ((s : Float) → sagOf (f s) ≡ g s) →
@@ -110,6 +95,16 @@ even-sag c k a r =
     (sag-after (baseRoot c k r2) (λ s. gives (depths (baseSagFrom c r2 s +₆₄ powers) s r 0f)) _ (λ s. refl)
     ∙ base-sag c k r2 (λ base. base +₆₄ powers))
 
+pub odd-sag : (c k : Float) (a : Polynomial) (r : Float) → sagOf (oddDepth c k a r) ≡ oddSag c k a r
+unfolding oddDepth oddSag
+odd-sag c k a r =
+    let r2 = r *₆₄ r in
+    let powers : Float → Float = λ base.
+    base +₆₄ powerSum (terms (a .even)) r2 r2 +₆₄ powerSum (terms (a .odd)) r r2 in
+    sag-tested (not (finite r) || (r <₆₄ 0f)) _ _
+    (sag-after (baseRoot c k r2) (λ s. gives (depths (powers (baseSagFrom c r2 s)) s r 0f)) _ (λ s. refl)
+    ∙ base-sag c k r2 powers)
+
 pub biconic-sag : (cx kx cy ky x y : Float) → sagOf (biconicDepth cx kx cy ky x y) ≡ biconicSag cx kx cy ky x y
 unfolding biconicDepth biconicSag
 biconic-sag cx kx cy ky x y =
@@ -129,9 +124,10 @@ toroid-sag rx cy ky x y =
     sag-after (edgeRoot (baseCurveRadicand cy ky y)) (λ b. circleDepth rx x (rx -₆₄ baseCurveSag cy y b) b) _
     (λ b. circle-sag rx x (rx -₆₄ baseCurveSag cy y b) b)
 
-pub sag-there : (q : Profile) (a : Coefficients) (semi r : Float) (p : Vec3) →
+pub sag-there : (q : Profile) (a : Polynomial) (semi r : Float) (p : Vec3) →
     shapeOf q a semi .sag r p ≡ sagOf (depthOf q a r p)
 unfolding depthOf
-sag-there (Even c k) a semi r p = sym (even-sag c k a r)
+sag-there (Even c k) a semi r p = sym (even-sag c k (a .even) r)
+sag-there (Odd c k) a semi r p = sym (odd-sag c k a r)
 sag-there (Biconic cx kx cy ky) a semi r p = sym (biconic-sag cx kx cy ky (p .x) (p .y))
 sag-there (Toroid rx cy ky) a semi r p = sym (toroid-sag rx cy ky (p .x) (p .y))

@@ -9,22 +9,25 @@ use lib.Ieee.Scale.{finite}
 use Rattle.numbers.specs.Arithmetic.{if_then_else_, _+₆₄_, _-₆₄_, _*₆₄_, _/₆₄_, _<₆₄_, 0f, 1f}
 use Rattle.numbers.specs.Basic.{larger}
 use Rattle.numbers.specs.Root.{root}
-use Rattle.surfaces.specs.Types.{noMeridians, terms}
+use Rattle.surfaces.specs.Types.{meridians, noMeridians, terms}
 use Rattle.surfaces.specs.Refusal.{Told, plain, gives, refused, done, after}
 use Rattle.surfaces.specs.Sags.{radicandTolerance, edgeRoot}
-use Rattle.surfaces.specs.Asphere.{powerSum, evenSlopes}
+use Rattle.surfaces.specs.Asphere.{powerSum, radialSlopes, evenSlopes, oddOnAxis, oddSlopesAt, oddSlopes}
 use Rattle.surfaces.specs.Conic.{signOf}
 use Rattle.surfaces.specs.Biconic.{numeratorOf, biconicRadicand, biconicSlopesAt, biconicSlopes}
 use Rattle.surfaces.specs.Biconic.{baseCurveRadicand, baseCurveSag, slopeRadicand, circleSlopes, toroidSlopes}
 use Rattle.surfaces.specs.Parts.{rootAgain, depths, noDepths, baseRoot, baseSagFrom, evenDepth, evenSlopeFrom}
-use Rattle.surfaces.specs.Parts.{evenSlopesFrom, biconicDepth, biconicSlopesFrom, circleDepth, toroidDepth}
-use Rattle.surfaces.specs.Parts.{toroidSlopesFrom, shapeOf, depthOf, slopesFrom}
+use Rattle.surfaces.specs.Parts.{evenSlopesFrom, oddDepth, oddSlopeFrom, oddSlopesFrom, biconicDepth}
+use Rattle.surfaces.specs.Parts.{biconicSlopesFrom, circleDepth, toroidDepth, toroidSlopesFrom, shapeOf, depthOf}
+use Rattle.surfaces.specs.Parts.{slopesFrom}
 use Rattle.surfaces.proofs.Again.{root-again, larger-fits}
-use Rattle.surfaces.proofs.Depths.{even-slope}
+use Rattle.surfaces.proofs.Depths.{even-slope, odd-slope}
 use Rattle.surfaces.specs.declared.types.Vec3.{Vec3}
+use Rattle.surfaces.specs.declared.types.Meridians.{Meridians}
 use Rattle.surfaces.specs.declared.types.Coefficients.{Coefficients}
+use Rattle.surfaces.specs.declared.types.Polynomial.{Polynomial}
 use Rattle.surfaces.specs.declared.newton.Profile.{Profile}
-use Rattle.surfaces.specs.declared.newton.Profile.the-variants.{Even, Biconic, Toroid}
+use Rattle.surfaces.specs.declared.newton.Profile.the-variants.{Even, Odd, Biconic, Toroid}
 
 -- an answer that came after another: that was an answer too, so that whatever else follows it has its value
 record Followed {A B : Type 0} (t : Told A) (f : A → Told B) (v : B) : Type 1 where
@@ -76,6 +79,25 @@ module _ (z s w b : Float) where
       let f = rooted (baseRoot c k r2) (λ d. baseSagFrom c r2 d +₆₄ powerSum (terms a) r2 r2) r 0f (t .1) in
       rw (even-slope c k a r, t .0, f .0 .goes 0f (evenSlopeFrom c a r), f .1, ← f .2)
 
+  -- a slope of the base's root never refuses, so that the slopes' own answer is one
+  odd : (c k : Float) (a : Polynomial) (x y r : Float) → oddDepth c k a r ≡ gives (depths z s w b) →
+      oddSlopes c k a x y r ≡ gives (oddSlopesFrom c a x y w s)
+  unfolding oddDepth oddSlopes oddSlopesAt oddSlopesFrom
+  odd c k a x y r h =
+      let r2 = r *₆₄ r in
+      let t = tested (not (finite r) || (r <₆₄ 0f)) noDepths _ _ h in
+      let f = rooted (baseRoot c k r2)
+      (λ d. baseSagFrom c r2 d +₆₄ powerSum (terms (a .even)) r2 r2 +₆₄ powerSum (terms (a .odd)) r r2) r 0f (t .1) in
+      rw (odd-slope c k a r, f .0 .goes 0f (λ d. gives (oddSlopeFrom c a r d)), f .1, ← f .2)
+      (by (oddOnAxis a r))
+    where
+      slopes : Meridians
+      slopes = let d = oddSlopeFrom c a r s in radialSlopes (meridians d 0f) d x y r
+
+      by : (t : Bool) → (if t then gives noMeridians else gives slopes) ≡ gives (if t then noMeridians else slopes)
+      by true = refl
+      by false = refl
+
   biconic : (cx kx cy ky x y : Float) → biconicDepth cx kx cy ky x y ≡ gives (depths z s w b) →
       biconicSlopes cx kx cy ky x y ≡ biconicSlopesFrom cx kx cy ky x y w s
   unfolding biconicDepth biconicSlopes biconicSlopesFrom
@@ -106,21 +128,24 @@ module _ (z s w b : Float) where
         slope-again cy ky y,
       )
 
-  pub shared : (q : Profile) (a : Coefficients) (semi r : Float) (p : Vec3) →
+  pub shared : (q : Profile) (a : Polynomial) (semi r : Float) (p : Vec3) →
       depthOf q a r p ≡ gives (depths z s w b) → shapeOf q a semi .slopes r p ≡ slopesFrom q a p s w b
   unfolding depthOf slopesFrom
-  shared (Even c k) a semi r p h = even c k a (p .x) (p .y) r h
+  shared (Even c k) a semi r p h = even c k (a .even) (p .x) (p .y) r h
+  shared (Odd c k) a semi r p h = odd c k a (p .x) (p .y) r h
   shared (Biconic cx kx cy ky) a semi r p h = biconic cx kx cy ky (p .x) (p .y) h
   shared (Toroid rx cy ky) a semi r p h = toroid rx cy ky (p .x) (p .y) h
 
-pub semi-of : (q : Profile) (a : Coefficients) (semi : Float) → shapeOf q a semi .semi ≡ semi
+pub semi-of : (q : Profile) (a : Polynomial) (semi : Float) → shapeOf q a semi .semi ≡ semi
 semi-of (Even c k) a semi = refl
+semi-of (Odd c k) a semi = refl
 semi-of (Biconic cx kx cy ky) a semi = refl
 semi-of (Toroid rx cy ky) a semi = refl
 
 -- the second exit's check and the limit go by the kind alone
-pub kind-alone : (q : Profile) (a b : Coefficients) (s t : Float) →
+pub kind-alone : (q : Profile) (a b : Polynomial) (s t : Float) →
     (shapeOf q a s .checksLast ≡ shapeOf q b t .checksLast) × (shapeOf q a s .limit ≡ shapeOf q b t .limit)
 kind-alone (Even c k) a b s t = (refl, refl)
+kind-alone (Odd c k) a b s t = (refl, refl)
 kind-alone (Biconic cx kx cy ky) a b s t = (refl, refl)
 kind-alone (Toroid rx cy ky) a b s t = (refl, refl)

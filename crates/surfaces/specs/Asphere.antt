@@ -1,7 +1,7 @@
 -- Even and odd aspheres: z(r) = c r² / (1 + √(1 - (1 + k) c² r²)) + Σ aᵢ r²ⁱ, and for the odd one + Σ bᵢ r²ⁱ⁻¹.
 -- Definitions only.
 use Prim.Native.Nat.{ℕ, suc}
-use mathlib.Core.Bool.{Bool, false, not, _&&_, _||_}
+use mathlib.Core.Bool.{Bool, true, false, not, _&&_, _||_}
 use mathlib.Core.List.{List, [], _∷_}
 use lib.IntN.{pos}
 use lib.Ieee.{Float, binary64, neg, ofInt}
@@ -10,7 +10,7 @@ use Rattle.numbers.specs.Arithmetic.{_+₆₄_, _-₆₄_, _*₆₄_, _/₆₄_
 use Rattle.numbers.specs.Basic.{magnitude, larger}
 use Rattle.numbers.specs.Root.{root}
 use Rattle.surfaces.specs.Types.{vec, zeros, backwards, distance, allFinite, meridians, noMeridians, terms}
-use Rattle.surfaces.specs.Types.{coefficientsGood}
+use Rattle.surfaces.specs.Types.{polynomial, coefficientsGood}
 use Rattle.surfaces.specs.Refusal.{handedOut, accepted, Told, gives, after, noNumber, noDirection, noEven, noOdd}
 use Rattle.surfaces.specs.Sags.{edgeRoot}
 use Rattle.surfaces.specs.Newton.{newtonAnswer, Shape}
@@ -19,6 +19,7 @@ use Rattle.surfaces.specs.declared.types.Ray.{Ray}
 use Rattle.surfaces.specs.declared.types.Landing.{Landing}
 use Rattle.surfaces.specs.declared.types.Meridians.{Meridians}
 use Rattle.surfaces.specs.declared.types.Coefficients.{Coefficients}
+use Rattle.surfaces.specs.declared.types.Polynomial.{Polynomial}
 use Rattle.surfaces.specs.declared.asphere.EvenAsphere.{EvenAsphere}
 use Rattle.surfaces.specs.declared.asphere.OddAsphere.{OddAsphere}
 
@@ -85,6 +86,10 @@ lengthOf dx dy = root (dx *₆₄ dx +₆₄ dy *₆₄ dy +₆₄ 1f)
 unfoldable pub facingOf : Float → Float → Float → Vec3
 facingOf dx dy norm = vec (dx /₆₄ norm) (dy /₆₄ norm) (neg 1f /₆₄ norm)
 
+-- the unit normal of slopes, without a test of its own
+unfoldable pub normalOf : Told Meridians → Told Vec3
+normalOf slopes = after zeros slopes (λ m. gives (facingOf (m .x) (m .y) (lengthOf (m .x) (m .y))))
+
 -- the last test of EvenAsphere::normal, which no other normal has
 unfoldable pub evenFacing : Float → Float → Told Vec3
 evenFacing dx dy =
@@ -144,12 +149,12 @@ evenCrossingAnswer s ray vertex =
     newtonAnswer (evenGood s) (evenShape (s .curvature) (s .conic) (s .coefficients) (s .semi)) ray vertex
 
 -- OddAsphere::sag
-unfoldable pub oddSag : OddAsphere → Float → Told Float
-oddSag s r =
+unfoldable pub oddSag : Float → Float → Polynomial → Float → Told Float
+oddSag c k a r =
     let r2 = r *₆₄ r in
     if not (finite r) || (r <₆₄ 0f) then noNumber 2 else
-    after 0f (baseSag (s .curvature) (s .conic) r2) (λ base.
-    gives (base +₆₄ powerSum (terms (s .even)) r2 r2 +₆₄ powerSum (terms (s .odd)) r r2))
+    after 0f (baseSag c k r2) (λ base.
+    gives (base +₆₄ powerSum (terms (a .even)) r2 r2 +₆₄ powerSum (terms (a .odd)) r r2))
 
 -- the base's slope in OddAsphere::normal, whose root is at least 1e-15
 unfoldable pub oddBaseSlope : Float → Float → Float → Told Float
@@ -159,20 +164,42 @@ oddBaseSlope c k r =
     gives ((c *₆₄ r) /₆₄ larger s 1e-15))
 
 -- the slope in OddAsphere::normal
-unfoldable pub oddSlope : OddAsphere → Float → Told Float
-oddSlope s r =
+unfoldable pub oddSlope : Float → Float → Polynomial → Float → Told Float
+oddSlope c k a r =
     let r2 = r *₆₄ r in
-    after 0f (oddBaseSlope (s .curvature) (s .conic) r) (λ base.
-    gives (base +₆₄ slopeSum (terms (s .even)) 2f r r2 +₆₄ slopeSum (terms (s .odd)) 1f 1f r2))
+    after 0f (oddBaseSlope c k r) (λ base.
+    gives (base +₆₄ slopeSum (terms (a .even)) 2f r r2 +₆₄ slopeSum (terms (a .odd)) 1f 1f r2))
 
--- OddAsphere::normal; near the axis the slope counts as along x
-unfoldable pub oddNormal : OddAsphere → Float → Float → Told Vec3
-oddNormal s x y =
+-- where OddAsphere::normal is the axis
+unfoldable pub oddOnAxis : Polynomial → Float → Bool
+oddOnAxis a r = (r <₆₄ 1e-15) && (magnitude (firstOr0 (terms (a .odd))) <₆₄ 1e-14)
+
+-- the slopes elsewhere; near the axis the slope counts as along x
+unfoldable pub oddSlopesAt : Float → Float → Polynomial → Float → Float → Float → Told Meridians
+oddSlopesAt c k a x y r =
+    after noMeridians (oddSlope c k a r) (λ d. gives (radialSlopes (meridians d 0f) d x y r))
+
+-- OddAsphere::normal
+unfoldable pub oddNormal : Float → Float → Polynomial → Float → Float → Told Vec3
+oddNormal c k a x y =
     let r = distance x y in
-    if (r <₆₄ 1e-15) && (magnitude (firstOr0 (terms (s .odd))) <₆₄ 1e-14) then gives backwards else
-    after zeros (oddSlope s r) (λ d.
-    let m = radialSlopes (meridians d 0f) d x y r in
-    gives (facingOf (m .x) (m .y) (lengthOf (m .x) (m .y))))
+    if oddOnAxis a r then gives backwards else
+    normalOf (oddSlopesAt c k a x y r)
+
+-- the slopes of a pass
+unfoldable pub oddSlopes : Float → Float → Polynomial → Float → Float → Float → Told Meridians
+oddSlopes c k a x y r =
+    if oddOnAxis a r then gives noMeridians else
+    oddSlopesAt c k a x y r
+
+abbrev pub oddShape : Float → Float → Polynomial → Float → Shape
+oddShape c k a semi = record {
+  sag = λ r p. oddSag c k a r;
+  slopes = λ r p. oddSlopes c k a (p .x) (p .y) r;
+  semi = semi;
+  checksLast = true;
+  limit = 25;
+}
 
 unfoldable pub oddGood : OddAsphere → Bool
 oddGood s =
@@ -184,8 +211,18 @@ newOddAnswer c k even odd semi =
     let s : OddAsphere = record { curvature = c; conic = k; semi = semi; even = even; odd = odd } in
     accepted noOdd (oddGood s) semi s
 
+abbrev pub powersOf : OddAsphere → Polynomial
+powersOf s = polynomial (s .even) (s .odd)
+
 unfoldable pub oddSagAnswer : OddAsphere → Float → Told Float
-oddSagAnswer s r = handedOut 2 0f finite (finite r && oddGood s) (oddSag s r)
+oddSagAnswer s r = handedOut 2 0f finite (finite r && oddGood s) (oddSag (s .curvature) (s .conic) (powersOf s) r)
 
 unfoldable pub oddNormalAnswer : OddAsphere → Float → Float → Told Vec3
-oddNormalAnswer s x y = handedOut 2 zeros allFinite (finite x && finite y && oddGood s) (oddNormal s x y)
+oddNormalAnswer s x y =
+    handedOut 2 zeros allFinite (finite x && finite y && oddGood s)
+    (oddNormal (s .curvature) (s .conic) (powersOf s) x y)
+
+-- the Rust has none; it is the biconic's, over the sag and the slopes above
+unfoldable pub oddCrossingAnswer : OddAsphere → Ray → Float → Told Landing
+oddCrossingAnswer s ray vertex =
+    newtonAnswer (oddGood s) (oddShape (s .curvature) (s .conic) (powersOf s) (s .semi)) ray vertex

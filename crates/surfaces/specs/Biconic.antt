@@ -10,7 +10,7 @@ use Rattle.surfaces.specs.Refusal.{handedOut, accepted, Told, gives, aft
 use Rattle.surfaces.specs.Conic.{signOf}
 use Rattle.surfaces.specs.Newton.{newtonAnswer, Shape}
 use Rattle.surfaces.specs.Sags.{edgeRoot}
-use Rattle.surfaces.specs.Asphere.{facingOf, lengthOf}
+use Rattle.surfaces.specs.Asphere.{normalOf}
 use Rattle.surfaces.specs.declared.types.Vec3.{Vec3}
 use Rattle.surfaces.specs.declared.types.Ray.{Ray}
 use Rattle.surfaces.specs.declared.types.Landing.{Landing}
@@ -53,10 +53,6 @@ biconicSlopes cx kx cy ky x y =
     if onAxis x y then gives noMeridians else
     after noMeridians (edgeRoot (biconicRadicand cx kx cy ky x y))
     (biconicSlopesAt cx kx cy ky x y (numeratorOf cx cy x y))
-
--- the unit normal of slopes, without a test of its own
-unfoldable pub normalOf : Told Meridians → Told Vec3
-normalOf slopes = after zeros slopes (λ m. gives (facingOf (m .x) (m .y) (lengthOf (m .x) (m .y))))
 
 -- BiconicSurface::normal
 unfoldable pub biconicNormal : Float → Float → Float → Float → Float → Float → Told Vec3

@@ -13,7 +13,7 @@ use Rattle.surfaces.specs.Conic.{fromRadiusAnswer, fromCurvatureAnswer, 
 use Rattle.surfaces.specs.Conic.{conicMeetAnswer}
 use Rattle.surfaces.specs.Asphere.{newEvenAnswer, evenSagAnswer, evenSlopeAnswer, evenNormalAnswer}
 use Rattle.surfaces.specs.Asphere.{evenParaxialAnswer, evenCrossingAnswer, newOddAnswer, oddSagAnswer}
-use Rattle.surfaces.specs.Asphere.{oddNormalAnswer}
+use Rattle.surfaces.specs.Asphere.{oddNormalAnswer, oddCrossingAnswer}
 use Rattle.surfaces.specs.Biconic.{newBiconicAnswer, biconicSagAnswer, biconicSlopesAnswer, biconicNormalAnswer}
 use Rattle.surfaces.specs.Biconic.{biconicCrossingAnswer, biconicParaxialAnswer, newToroidAnswer, toroidSagAnswer}
 use Rattle.surfaces.specs.Biconic.{toroidSlopesAnswer, toroidNormalAnswer, toroidCrossingAnswer}
@@ -60,6 +60,8 @@ pub record Demand1 : Type 0 where
       Only (1 ∷ 2 ∷ []) (newOddAnswer c k even odd semi)
   pub odd-sag : (s : OddAsphere) (r : Float) → Only (1 ∷ 2 ∷ 5 ∷ 9 ∷ []) (oddSagAnswer s r)
   pub odd-normal : (s : OddAsphere) (x y : Float) → Only (1 ∷ 2 ∷ 5 ∷ 9 ∷ []) (oddNormalAnswer s x y)
+  pub odd-intersect-ray : (s : OddAsphere) (ray : Ray) (vertex : Float) →
+      Only (1 ∷ 2 ∷ 4 ∷ 6 ∷ 7 ∷ 9 ∷ []) (oddCrossingAnswer s ray vertex)
   -- biconic: its paraxial curvatures are two of its own numbers, and so are finite
   pub biconic-new : (cx kx cy ky semi : Float) → Only (1 ∷ 2 ∷ []) (newBiconicAnswer cx kx cy ky semi)
   pub biconic-sag : (s : BiconicSurface) (x y : Float) → Only (1 ∷ 2 ∷ 5 ∷ 9 ∷ []) (biconicSagAnswer s x y)

@@ -14,9 +14,9 @@ use Rattle.numbers.specs.Basic.{magnitude, negative, larger, clamped, infinite}
 use Rattle.numbers.specs.Root.{root}
 use Rattle.surfaces.specs.Types.{vec, backwards, dotOf, overOf, distance, pointAt, allFinite, rayFinite, landing}
 use Rattle.surfaces.specs.Types.{bothFinite, meridians, noLanding, landingFinite, noHit, hitFinite}
-use Rattle.surfaces.specs.Types.{noCoefficients, everyFinite, coefficientsGood}
+use Rattle.surfaces.specs.Types.{noCoefficients, polynomial, everyFinite, coefficientsGood}
 use Rattle.surfaces.specs.Refusal.{Told, Ended, plain, vignetted, gives, refused, noNumber, noPair, noDirection}
-use Rattle.surfaces.specs.Refusal.{noCrossing, noConic, noLeaving, ended}
+use Rattle.surfaces.specs.Refusal.{noCrossing, noConic, noLeaving, again, ended}
 use Rattle.surfaces.specs.Snell.{turnedIf, negatedIf, mirrored, reflected, reflectAnswer, bent, refracted}
 use Rattle.surfaces.specs.Snell.{refractAnswer}
 use Rattle.surfaces.specs.Conic.{conicSurface, curvatureOf, fromRadiusAnswer, fromCurvatureAnswer, conicSag}
@@ -28,17 +28,19 @@ use Rattle.surfaces.specs.Sags.{edgeRoot}
 use Rattle.surfaces.specs.Newton.{arrivedAt, movedBy, passAt, vertexPlane, passesFrom, newtonEnd, passStart}
 use Rattle.surfaces.specs.Newton.{nextPass, limitedPass}
 use Rattle.surfaces.specs.Asphere.{powerSumFrom, slopeSumFrom, baseSag, baseSlope, evenSag, evenSlope}
-use Rattle.surfaces.specs.Asphere.{radialSlopes, evenSlopes, lengthOf, facingOf, evenFacing, evenNormal, evenGood}
-use Rattle.surfaces.specs.Asphere.{evenSagAnswer, evenSlopeAnswer, evenParaxialAnswer, evenCrossingAnswer, oddSag}
-use Rattle.surfaces.specs.Asphere.{oddBaseSlope, oddSlope, oddNormal, oddGood, oddSagAnswer, oddNormalAnswer}
+use Rattle.surfaces.specs.Asphere.{radialSlopes, evenSlopes, lengthOf, facingOf, normalOf, evenFacing, evenNormal}
+use Rattle.surfaces.specs.Asphere.{evenGood, evenSagAnswer, evenSlopeAnswer, evenParaxialAnswer}
+use Rattle.surfaces.specs.Asphere.{evenCrossingAnswer, oddSag, oddBaseSlope, oddSlope, oddOnAxis, oddSlopesAt}
+use Rattle.surfaces.specs.Asphere.{oddNormal, oddSlopes, oddGood, oddSagAnswer, oddNormalAnswer}
+use Rattle.surfaces.specs.Asphere.{oddCrossingAnswer}
 use Rattle.surfaces.specs.Biconic.{numeratorOf, biconicRadicand, biconicSag, onAxis, meridianSlope}
-use Rattle.surfaces.specs.Biconic.{biconicSlopesAt, biconicSlopes, normalOf, biconicNormal, biconicGood}
+use Rattle.surfaces.specs.Biconic.{biconicSlopesAt, biconicSlopes, biconicNormal, biconicGood}
 use Rattle.surfaces.specs.Biconic.{biconicSagAnswer, biconicSlopesAnswer, biconicNormalAnswer}
 use Rattle.surfaces.specs.Biconic.{biconicCrossingAnswer, baseCurveRadicand, baseCurveSag, circleSag, toroidSag}
 use Rattle.surfaces.specs.Biconic.{slopeRadicand, baseCurveSlope, circleSlopesAt, circleSlopes, toroidSlopes}
 use Rattle.surfaces.specs.Biconic.{toroidNormal, toroidGood, toroidSagAnswer, toroidSlopesAnswer}
 use Rattle.surfaces.specs.Biconic.{toroidCrossingAnswer}
-use Rattle.surfaces.specs.Surface.{surfaceEnd, surfaceNormal, onwardFrom, turnAnswer}
+use Rattle.surfaces.specs.Surface.{passAnswer, surfaceEnd, surfaceNormal, onwardFrom, turnAnswer}
 use Rattle.surfaces.specs.declared.types.Vec3.{Vec3}
 use Rattle.surfaces.specs.declared.types.Ray.{Ray}
 use Rattle.surfaces.specs.declared.types.Landing.{Landing}
@@ -52,7 +54,7 @@ use Rattle.surfaces.specs.declared.asphere.OddAsphere.{OddAsphere}
 use Rattle.surfaces.specs.declared.biconic.BiconicSurface.{BiconicSurface}
 use Rattle.surfaces.specs.declared.biconic.ToroidalSurface.{ToroidalSurface}
 use Rattle.surfaces.specs.declared.surface.Kind.{Kind}
-use Rattle.surfaces.specs.declared.surface.Kind.the-variants.{Even, Biconic, Toroid}
+use Rattle.surfaces.specs.declared.surface.Kind.the-variants.{Even, Odd, Biconic, Toroid}
 use Rattle.surfaces.specs.declared.surface.Surface.{Surface}
 use Rattle.surfaces.specs.declared.surface.Boundary.the-variants.{Media}
 use Rattle.surfaces.specs.declared.surface.Leaving.{Leaving}
@@ -178,7 +180,15 @@ abbrev pub toroid : Float → Float → Float → ToroidalSurface
 toroid rx cy ky = record { rx = rx; cy = cy; ky = ky; semi = whole 10 }
 
 abbrev pub surface : Float → Float → Kind → Coefficients → Surface
-surface v semi k a = record { vertex = v; semi = semi; kind = k; coefficients = a }
+surface v semi k a = record { vertex = v; semi = semi; kind = k; polynomial = polynomial a noCoefficients }
+
+-- odd aspheres c 0 with these coefficients of odd powers, and as a surface of a trace
+abbrev pub odds : List Float → Float → OddAsphere
+odds l semi = record { curvature = 0f; conic = 0f; semi = semi; even = noCoefficients; odd = these l }
+
+abbrev pub cone : List Float → Float → Surface
+cone l semi =
+    record { vertex = 0f; semi = semi; kind = Odd 0f 0f; polynomial = polynomial noCoefficients (these l) }
 
 abbrev pub flat : Float → Surface
 flat semi = surface 0f semi (Even 0f 0f) noCoefficients
@@ -204,6 +214,10 @@ sideways = ray (vec 0f 0f (1 over 2 ^ 30)) (vec (whole (2 ^ 50)) 0f (whole (2 ^ 
 
 abbrev pub at-minus-1 : Landing
 at-minus-1 = landing (neg (1 over 2 ^ 50)) (vec (neg 1f) 0f 0f)
+
+-- a ray from (0, 0, 1), behind the vertex, that rises by 1 while x goes so far
+abbrev pub from-the-axis : ℕ → Ray
+from-the-axis x = ray (vec 0f 0f 1f) (vec (whole x) 0f 1f)
 
 -- a ray past the sag x², which Newton's method sends from t 0 to t -2 and back
 abbrev pub to-and-fro : Ray
@@ -276,6 +290,22 @@ cases =
     (number (oddSagAnswer odd (whole 5)) ⇒ number (gives (245 over 16))) ∷
     (direction (oddNormalAnswer odd (whole 3) 4f) ⇒ direction (gives (vec (9 over 17) (12 over 17) (neg (8 over 17)))))
     ∷
+    -- the powers of its odd terms begin at r: a cone that rises by 1/4 is met at t 2, from (4, 0, -1) along z
+    (crossing (oddCrossingAnswer (odds (1 over 4 ∷ []) (whole 5)) beside 0f)
+    ⇒ crossing (gives (landing 2f (vec 4f 0f 1f)))) ∷
+    (end (surfaceEnd (cone (1 over 4 ∷ []) (whole 5)) beside)
+    ⇒ end (ended (gives (landing 2f (vec 4f 0f 1f))) 2)) ∷
+    (crossing (oddCrossingAnswer (odds (1 over 4 ∷ []) (neg 1f)) beside 0f) ⇒ crossing (noCrossing 2)) ∷
+    -- its slopes are 0 where its normal is the axis, with an odd term below 1e-14, and not above; up to r 1e-14 they
+    -- are along x
+    (crossing (passAnswer (cone (1 over 2 ^ 47 ∷ []) (whole (2 ^ 60))) (from-the-axis (2 ^ 46)) 0 0f)
+    ⇒ crossing (again (neg 1f))) ∷
+    (crossing (passAnswer (cone (1 over 2 ^ 46 ∷ []) (whole (2 ^ 60))) (from-the-axis (2 ^ 45)) 0 0f)
+    ⇒ crossing (again (neg 2f))) ∷
+    (pair (oddSlopes 0f 0f (polynomial noCoefficients (these (½ ∷ []))) 0f (1 over 2 ^ 49) (1 over 2 ^ 49))
+    ⇒ pair (gives (meridians ½ 0f))) ∷
+    (pair (oddSlopes 0f 0f (polynomial noCoefficients (these (½ ∷ []))) 0f (1 over 2 ^ 46) (1 over 2 ^ 46))
+    ⇒ pair (gives (meridians 0f ½))) ∷
     -- even asphere: within 1.5 semi-diameters but beyond one it is vignetted, beyond 1.5 it is missed; slots past the
     -- count are not read
     (end (surfaceEnd (bowl (whole 5)) beside) ⇒ end (ended (gives (landing (whole 3) (vec 4f 0f 2f))) 2)) ∷
@@ -285,8 +315,10 @@ cases =
     -- |f'| below 1e-15 is singular; above, the ray moves on, far beyond the surface
     (end (surfaceEnd (bowl (whole 5)) (rising ((2 ^ 50 + 1) over 2 ^ 50))) ⇒ end (ended (noCrossing 4) 1)) ∷
     (end (surfaceEnd (bowl (whole 5)) (rising ((2 ^ 49 + 1) over 2 ^ 49))) ⇒ end (ended (noCrossing 6) 2)) ∷
-    -- the second exit: an even asphere does not check r there, a biconic and a toroid do
+    -- the second exit: an even asphere does not check r there, the others do
     (end (surfaceEnd (flat ½) sideways) ⇒ end (ended (gives at-minus-1) 1)) ∷
+    (end (surfaceEnd (cone [] ½) sideways) ⇒ end (ended (refused noLanding (vignetted 1f ½)) 1)) ∷
+    (end (surfaceEnd (cone [] 1f) sideways) ⇒ end (ended (gives at-minus-1) 1)) ∷
     (end (surfaceEnd (surface 0f ½ (Biconic 0f 0f 0f 0f) noCoefficients) sideways)
     ⇒ end (ended (refused noLanding (vignetted 1f ½)) 1)) ∷
     (end (surfaceEnd (surface 0f 1f (Biconic 0f 0f 0f 0f) noCoefficients) sideways)
@@ -300,6 +332,7 @@ cases =
     ⇒ turn (refused noLeaving (plain 2))) ∷
     -- the last pass, the 25th or the 35th, ends in a miss if in nothing else
     (end (surfaceEnd (surface 0f (whole 5) (Even 0f 0f) (ones 1)) to-and-fro) ⇒ end (ended (noCrossing 6) 25)) ∷
+    (end (surfaceEnd (surface 0f (whole 5) (Odd 0f 0f) (ones 1)) to-and-fro) ⇒ end (ended (noCrossing 6) 25)) ∷
     (end (surfaceEnd (surface 0f (whole 5) (Biconic 2f (neg 1f) 0f 0f) noCoefficients) to-and-fro)
     ⇒ end (ended (noCrossing 6) 35)) ∷
     -- and it may hit: on a ray that touches, x - 64 halves 24 times from -32
@@ -355,10 +388,11 @@ unfolding cases bits _over_ decimal magnitude negative larger clamped infinite r
     conicFinite landedWithin planeCrossing nearSag firstOn kept firstRoot secondRoot ascending quadraticOf signOf
     curvedCrossing conicCrossing normalAt hitAt conicMeet conicMeetAnswer arrivedAt movedBy passAt vertexPlane
     passesFrom newtonEnd passStart nextPass limitedPass powerSumFrom slopeSumFrom edgeRoot baseSag baseSlope evenSag
-    evenSlope radialSlopes evenSlopes lengthOf facingOf evenFacing evenNormal evenGood evenSagAnswer evenSlopeAnswer
-    evenParaxialAnswer evenCrossingAnswer oddSag oddBaseSlope oddSlope oddNormal oddGood oddSagAnswer oddNormalAnswer
-    numeratorOf biconicRadicand biconicSag onAxis meridianSlope biconicSlopesAt biconicSlopes normalOf biconicNormal
-    biconicGood biconicSagAnswer biconicSlopesAnswer biconicNormalAnswer biconicCrossingAnswer baseCurveRadicand
+    evenSlope radialSlopes evenSlopes lengthOf facingOf normalOf evenFacing evenNormal evenGood evenSagAnswer
+    evenSlopeAnswer evenParaxialAnswer evenCrossingAnswer oddSag oddBaseSlope oddSlope oddOnAxis oddSlopesAt oddNormal
+    oddSlopes oddGood oddSagAnswer oddNormalAnswer oddCrossingAnswer numeratorOf biconicRadicand biconicSag onAxis
+    meridianSlope biconicSlopesAt biconicSlopes biconicNormal biconicGood biconicSagAnswer biconicSlopesAnswer biconicNormalAnswer biconicCrossingAnswer baseCurveRadicand
     baseCurveSag circleSag toroidSag slopeRadicand baseCurveSlope circleSlopesAt circleSlopes toroidSlopes toroidNormal
-    toroidGood toroidSagAnswer toroidSlopesAnswer toroidCrossingAnswer surfaceEnd surfaceNormal onwardFrom turnAnswer
+    toroidGood toroidSagAnswer toroidSlopesAnswer toroidCrossingAnswer passAnswer surfaceEnd surfaceNormal onwardFrom
+    turnAnswer
 each-case = refl

@@ -10,13 +10,13 @@ use lib.Ieee.Scale.{finite}
 use Rattle.numbers.specs.Arithmetic.{_+₆₄_, _-₆₄_, _*₆₄_, _/₆₄_, _<₆₄_, _≤₆₄_, if_then_else_, 0f, 1f, 2f, 1e-14, 1e-15}
 use Rattle.numbers.specs.Basic.{magnitude, larger}
 use Rattle.numbers.specs.Root.{root}
-use Rattle.surfaces.specs.Types.{noMeridians, terms}
+use Rattle.surfaces.specs.Types.{meridians, noMeridians, terms}
 use Rattle.surfaces.specs.Refusal.{Told, Ended, plain, gives, refused, after, ended, noNumber, noPair}
 use Rattle.surfaces.specs.Refusal.{toldCrossing}
 use Rattle.surfaces.specs.Conic.{Quadratic, conicEdge, sheetTolerance, signOf}
 use Rattle.surfaces.specs.Sags.{edgeRoot}
 use Rattle.surfaces.specs.Newton.{Shape}
-use Rattle.surfaces.specs.Asphere.{powerSum, slopeSum, radialSlopes, evenShape}
+use Rattle.surfaces.specs.Asphere.{powerSum, slopeSum, radialSlopes, evenShape, oddOnAxis, oddShape}
 use Rattle.surfaces.specs.Biconic.{numeratorOf, biconicRadicand, onAxis, biconicSlopesAt, biconicShape}
 use Rattle.surfaces.specs.Biconic.{baseCurveRadicand, baseCurveSag, slopeRadicand, baseCurveSlope, circleSlopesAt}
 use Rattle.surfaces.specs.Biconic.{toroidShape}
@@ -24,6 +24,7 @@ use Rattle.surfaces.specs.Surface.{Way, whole, passes, conicOf}
 use Rattle.surfaces.specs.declared.types.Vec3.{Vec3}
 use Rattle.surfaces.specs.declared.types.Meridians.{Meridians}
 use Rattle.surfaces.specs.declared.types.Coefficients.{Coefficients}
+use Rattle.surfaces.specs.declared.types.Polynomial.{Polynomial}
 use Rattle.surfaces.specs.declared.conic.Root.{Root}
 use Rattle.surfaces.specs.declared.conic.Root.the-variants as candidate
 use Rattle.surfaces.specs.declared.conic.Quadratic.{Quadratic as Computed}
@@ -35,7 +36,7 @@ use Rattle.surfaces.specs.declared.newton.Profile.{Profile}
 use Rattle.surfaces.specs.declared.newton.Profile.the-variants as profile
 use Rattle.surfaces.specs.declared.newton.End.{End}
 use Rattle.surfaces.specs.declared.surface.Kind.{Kind}
-use Rattle.surfaces.specs.declared.surface.Kind.the-variants.{Conic, Even, Biconic, Toroid}
+use Rattle.surfaces.specs.declared.surface.Kind.the-variants.{Conic, Even, Odd, Biconic, Toroid}
 use Rattle.surfaces.specs.declared.surface.Family.{Family}
 use Rattle.surfaces.specs.declared.surface.Family.the-variants as family
 use Rattle.surfaces.specs.declared.surface.Surface.{Surface}
@@ -85,10 +86,7 @@ baseSlopeFrom c r s =
     if s ≤₆₄ 1e-15 then noNumber 4 else
     gives ((c *₆₄ r) /₆₄ s)
 
-unfoldable pub oddBaseSlopeFrom : Float → Float → Float → Float
-oddBaseSlopeFrom c r s = if magnitude c <₆₄ 1e-15 then 0f else (c *₆₄ r) /₆₄ larger s 1e-15
-
--- A sag with what the slopes at the same point need of it: its root; an even asphere's r, a biconic's numerator or a
+-- A sag with what the slopes at the same point need of it: its root; an asphere's r, a biconic's numerator or a
 -- toroid's circle; and the root of a toroid's base curve.
 pub record Depths : Type 0 where
   pub sag : Float
@@ -129,6 +127,27 @@ unfoldable pub evenSlopesFrom : Float → Coefficients → Float → Float → F
 evenSlopesFrom c a x y r s =
     after noMeridians (evenSlopeFrom c a r s) (λ d. gives (radialSlopes noMeridians d x y r))
 
+unfoldable pub oddDepth : Float → Float → Polynomial → Float → Told Depths
+oddDepth c k a r =
+    let r2 = r *₆₄ r in
+    if not (finite r) || (r <₆₄ 0f) then noDepth 2 else
+    after noDepths (baseRoot c k r2) (λ s.
+    gives (depths
+    (baseSagFrom c r2 s +₆₄ powerSum (terms (a .even)) r2 r2 +₆₄ powerSum (terms (a .odd)) r r2) s r 0f))
+
+unfoldable pub oddBaseSlopeFrom : Float → Float → Float → Float
+oddBaseSlopeFrom c r s = if magnitude c <₆₄ 1e-15 then 0f else (c *₆₄ r) /₆₄ larger s 1e-15
+
+unfoldable pub oddSlopeFrom : Float → Polynomial → Float → Float → Float
+oddSlopeFrom c a r s =
+    let r2 = r *₆₄ r in
+    oddBaseSlopeFrom c r s +₆₄ slopeSum (terms (a .even)) 2f r r2 +₆₄ slopeSum (terms (a .odd)) 1f 1f r2
+
+unfoldable pub oddSlopesFrom : Float → Polynomial → Float → Float → Float → Float → Meridians
+oddSlopesFrom c a x y r s =
+    let d = oddSlopeFrom c a r s in
+    if oddOnAxis a r then noMeridians else radialSlopes (meridians d 0f) d x y r
+
 unfoldable pub biconicDepth : Float → Float → Float → Float → Float → Float → Told Depths
 biconicDepth cx kx cy ky x y =
     let num = numeratorOf cx cy x y in
@@ -161,18 +180,21 @@ toroidSlopesFrom rx cy ky x y term s b =
     gives (circleSlopesAt rx x term root (baseCurveSlope cy y base))
 
 -- newton: what a profile brings, and its sag and slopes at a point whose distance from the axis is r
-abbrev pub shapeOf : Profile → Coefficients → Float → Shape
-shapeOf (profile.Even c k) a semi = evenShape c k a semi
+abbrev pub shapeOf : Profile → Polynomial → Float → Shape
+shapeOf (profile.Even c k) a semi = evenShape c k (a .even) semi
+shapeOf (profile.Odd c k) a semi = oddShape c k a semi
 shapeOf (profile.Biconic cx kx cy ky) a semi = biconicShape cx kx cy ky semi
 shapeOf (profile.Toroid rx cy ky) a semi = toroidShape rx cy ky semi
 
-unfoldable pub depthOf : Profile → Coefficients → Float → Vec3 → Told Depths
-depthOf (profile.Even c k) a r p = evenDepth c k a r
+unfoldable pub depthOf : Profile → Polynomial → Float → Vec3 → Told Depths
+depthOf (profile.Even c k) a r p = evenDepth c k (a .even) r
+depthOf (profile.Odd c k) a r p = oddDepth c k a r
 depthOf (profile.Biconic cx kx cy ky) a r p = biconicDepth cx kx cy ky (p .x) (p .y)
 depthOf (profile.Toroid rx cy ky) a r p = toroidDepth rx cy ky (p .x) (p .y)
 
-unfoldable pub slopesFrom : Profile → Coefficients → Vec3 → Float → Float → Float → Told Meridians
-slopesFrom (profile.Even c k) a p s part base = evenSlopesFrom c a (p .x) (p .y) part s
+unfoldable pub slopesFrom : Profile → Polynomial → Vec3 → Float → Float → Float → Told Meridians
+slopesFrom (profile.Even c k) a p s part base = evenSlopesFrom c (a .even) (p .x) (p .y) part s
+slopesFrom (profile.Odd c k) a p s part base = gives (oddSlopesFrom c a (p .x) (p .y) part s)
 slopesFrom (profile.Biconic cx kx cy ky) a p s part base = biconicSlopesFrom cx kx cy ky (p .x) (p .y) part s
 slopesFrom (profile.Toroid rx cy ky) a p s part base = toroidSlopesFrom rx cy ky (p .x) (p .y) part s base
 
@@ -183,9 +205,10 @@ toldEnd e = ended (toldCrossing (e .crossing)) (e .passes)
 abbrev pub familyOf : Kind → Family
 familyOf (Conic c k) = family.Conic c k
 familyOf (Even c k) = family.Newton (profile.Even c k)
+familyOf (Odd c k) = family.Newton (profile.Odd c k)
 familyOf (Biconic cx kx cy ky) = family.Newton (profile.Biconic cx kx cy ky)
 familyOf (Toroid rx cy ky) = family.Newton (profile.Toroid rx cy ky)
 
 abbrev pub wayAs : Family → Surface → Way
 wayAs (family.Conic c k) s = whole (conicOf s c k)
-wayAs (family.Newton q) s = passes (shapeOf q (s .coefficients) (s .semi))
+wayAs (family.Newton q) s = passes (shapeOf q (s .polynomial) (s .semi))

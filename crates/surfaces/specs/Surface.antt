@@ -4,19 +4,19 @@ use mathlib.Core.Path.{_≡_}
 use mathlib.Core.Bool.{false}
 use lib.Ieee.{Float}
 use Rattle.numbers.specs.Arithmetic.{_<₆₄_, if_then_else_, 0f}
-use Rattle.surfaces.specs.Types.{dotOf, noCoefficients}
+use Rattle.surfaces.specs.Types.{dotOf, noPolynomial}
 use Rattle.surfaces.specs.Refusal.{Told, Ended, gives, after, again, ended, noLeaving}
 use Rattle.surfaces.specs.Snell.{reflected, refracted}
 use Rattle.surfaces.specs.Conic.{conicSurface, conicCrossing, normalAt}
 use Rattle.surfaces.specs.Newton.{Shape, newtonEnd, limitedPass, going}
-use Rattle.surfaces.specs.Asphere.{evenShape, evenNormal}
+use Rattle.surfaces.specs.Asphere.{evenShape, evenNormal, oddShape, oddNormal}
 use Rattle.surfaces.specs.Biconic.{biconicShape, biconicNormal, toroidShape, toroidNormal}
 use Rattle.surfaces.specs.declared.types.Vec3.{Vec3}
 use Rattle.surfaces.specs.declared.types.Ray.{Ray}
 use Rattle.surfaces.specs.declared.types.Landing.{Landing}
 use Rattle.surfaces.specs.declared.conic.ConicSurface.{ConicSurface}
 use Rattle.surfaces.specs.declared.surface.Kind.{Kind}
-use Rattle.surfaces.specs.declared.surface.Kind.the-variants.{Conic, Even, Biconic, Toroid}
+use Rattle.surfaces.specs.declared.surface.Kind.the-variants.{Conic, Even, Odd, Biconic, Toroid}
 use Rattle.surfaces.specs.declared.surface.Surface.{Surface}
 use Rattle.surfaces.specs.declared.surface.Boundary.{Boundary}
 use Rattle.surfaces.specs.declared.surface.Boundary.the-variants.{Mirror, Media}
@@ -32,7 +32,8 @@ pub data Way : Type 0 where
 
 abbrev pub wayOf : Kind → Surface → Way
 wayOf (Conic c k) s = whole (conicOf s c k)
-wayOf (Even c k) s = passes (evenShape c k (s .coefficients) (s .semi))
+wayOf (Even c k) s = passes (evenShape c k (s .polynomial .even) (s .semi))
+wayOf (Odd c k) s = passes (oddShape c k (s .polynomial) (s .semi))
 wayOf (Biconic cx kx cy ky) s = passes (biconicShape cx kx cy ky (s .semi))
 wayOf (Toroid rx cy ky) s = passes (toroidShape rx cy ky (s .semi))
 
@@ -58,7 +59,7 @@ limitBy (passes q) = q .limit
 
 -- a surface of a kind, and nothing else of it
 abbrev pub bare : Kind → Surface
-bare k = record { vertex = 0f; semi = 0f; kind = k; coefficients = noCoefficients }
+bare k = record { vertex = 0f; semi = 0f; kind = k; polynomial = noPolynomial }
 
 -- how many passes a kind may take
 unfoldable pub limitOf : Kind → ℕ
@@ -79,7 +80,8 @@ pub record ChainEnds (s : Surface) (ray : Ray) (t : Float) : Type 0 where
 
 abbrev pub normalBy : Kind → Surface → Vec3 → Told Vec3
 normalBy (Conic c k) s p = normalAt p (conicOf s c k)
-normalBy (Even c k) s p = evenNormal c k (s .coefficients) (p .x) (p .y)
+normalBy (Even c k) s p = evenNormal c k (s .polynomial .even) (p .x) (p .y)
+normalBy (Odd c k) s p = oddNormal c k (s .polynomial) (p .x) (p .y)
 normalBy (Biconic cx kx cy ky) s p = biconicNormal cx kx cy ky (p .x) (p .y)
 normalBy (Toroid rx cy ky) s p = toroidNormal rx cy ky (p .x) (p .y)
 

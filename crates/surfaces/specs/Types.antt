@@ -13,6 +13,7 @@ use Rattle.surfaces.specs.declared.types.Landing.{Landing}
 use Rattle.surfaces.specs.declared.types.HitRecord.{HitRecord}
 use Rattle.surfaces.specs.declared.types.Meridians.{Meridians}
 use Rattle.surfaces.specs.declared.types.Coefficients.{Coefficients}
+use Rattle.surfaces.specs.declared.types.Polynomial.{Polynomial}
 
 abbrev pub vec : Float → Float → Float → Vec3
 vec x y z = record { x = x; y = y; z = z }
@@ -86,6 +87,12 @@ terms a = take (a .count) (a .values)
 
 abbrev pub noCoefficients : Coefficients
 noCoefficients = record { count = 0; values = 0f ∷ 0f ∷ 0f ∷ 0f ∷ 0f ∷ 0f ∷ 0f ∷ 0f ∷ [] }
+
+abbrev pub polynomial : Coefficients → Coefficients → Polynomial
+polynomial even odd = record { even = even; odd = odd }
+
+abbrev pub noPolynomial : Polynomial
+noPolynomial = polynomial noCoefficients noCoefficients
 
 unfoldable pub everyFinite : List Float → Bool
 everyFinite [] = true

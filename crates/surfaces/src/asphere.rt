@@ -1,14 +1,13 @@
 // Even and odd aspheres: a conic base and a sum of powers of r, in mm. The even one has z = base + Σ aᵢ r²ⁱ, the odd
 // one also Σ bᵢ r²ⁱ⁻¹. Signs and units of c and k are the conic's; aᵢ is in mm¹⁻²ⁱ.
 ghost use mathlib.Core.Path.{_≡_};
-ghost use Rattle.surfaces.specs.Types.{terms};
-ghost use Rattle.surfaces.specs.Refusal.{toldNumber, toldSag, toldDirection, toldCrossing, toldEven, toldOdd};
-ghost use Rattle.surfaces.specs.Asphere.{evenSag, evenSlope, lengthOf, facingOf, evenFacing, evenNormal};
+ghost use Rattle.surfaces.specs.Refusal.{toldNumber, toldSag, toldPair, toldDirection, toldCrossing, toldEven};
+ghost use Rattle.surfaces.specs.Refusal.{toldOdd};
+ghost use Rattle.surfaces.specs.Asphere.{evenSag, evenSlope, lengthOf, facingOf, normalOf, evenFacing, evenNormal};
 ghost use Rattle.surfaces.specs.Asphere.{evenGood, newEvenAnswer, evenSagAnswer, evenSlopeAnswer};
-ghost use Rattle.surfaces.specs.Asphere.{evenNormalAnswer, firstOr0, evenParaxialAnswer, evenCrossingAnswer};
-ghost use Rattle.surfaces.specs.Asphere.{oddSag, oddSlope, oddNormal, oddGood, newOddAnswer, oddSagAnswer};
-ghost use Rattle.surfaces.specs.Asphere.{oddNormalAnswer};
-ghost use Rattle.surfaces.specs.Parts.{oddBaseSlopeFrom};
+ghost use Rattle.surfaces.specs.Asphere.{evenNormalAnswer, evenParaxialAnswer, evenCrossingAnswer, oddSag};
+ghost use Rattle.surfaces.specs.Asphere.{oddSlopesAt, oddNormal, oddGood, newOddAnswer, powersOf, oddSagAnswer};
+ghost use Rattle.surfaces.specs.Asphere.{oddNormalAnswer, oddCrossingAnswer};
 use crate::newton::Profile;
 use crate::newton::can_be_met;
 use crate::newton::newton;
@@ -16,6 +15,7 @@ use crate::refusal::Acceptance;
 use crate::refusal::Crossing;
 use crate::refusal::Direction;
 use crate::refusal::Number;
+use crate::refusal::Pair;
 use crate::refusal::Refusal;
 use crate::refusal::Sag;
 use crate::refusal::checked_crossing;
@@ -24,23 +24,23 @@ use crate::refusal::checked_number;
 use crate::refusal::checked_sag;
 use crate::sags::EdgeRoot;
 use crate::sags::base_root;
-use crate::sags::base_sag_from;
 use crate::sags::even_depth;
 use crate::sags::even_slope_from;
-use crate::sags::power_sum;
+use crate::sags::first_or_zero;
+use crate::sags::odd_depth;
+use crate::sags::odd_on_axis;
+use crate::sags::odd_slope_from;
 use crate::sags::radial_slopes;
 use crate::sags::sag_of;
-use crate::sags::slope_sum;
 use crate::types::Coefficients;
 use crate::types::Meridians;
+use crate::types::Polynomial;
 use crate::types::Ray;
 use crate::types::Vec3;
 use crate::types::backwards;
 use crate::types::coefficients_good;
 use crate::types::no_coefficients;
-use numbers::abs;
 use numbers::is_finite;
-use numbers::max;
 use numbers::sqrt;
 
 // Rust's curvature, conic_constant, semi_diameter_mm and coefficients.
@@ -78,20 +78,30 @@ fn raw_even_slope(c: f64, k: f64, a: Coefficients, r: f64, near: f64) -> Number
 }
 
 // The length of (∂z/∂x, ∂z/∂y, -1), in which a surface with these slopes faces.
-pub(crate) fn length_of(dx: f64, dy: f64) -> f64
+fn length_of(dx: f64, dy: f64) -> f64
     ensures { λ r. ⌜ r ≡ lengthOf dx dy ⌝ }
 {
     sqrt(dx * dx + dy * dy + 1.0)
 }
 
 // The unit normal of such a surface, towards -z.
-pub(crate) fn facing(dx: f64, dy: f64, norm: f64) -> Vec3
+fn facing(dx: f64, dy: f64, norm: f64) -> Vec3
     ensures { λ v. ⌜ v ≡ facingOf dx dy norm ⌝ }
 {
     Vec3 {
         x: dx / norm,
         y: dy / norm,
         z: -1.0 / norm,
+    }
+}
+
+// The unit normal of slopes; it has no test of its own.
+pub(crate) fn normal_of(m: Pair) -> Direction
+    ensures { λ v. ⌜ toldDirection v ≡ normalOf (toldPair m) ⌝ }
+{
+    match m {
+        Pair::Given(d) => Direction::Given(facing(d.x, d.y, length_of(d.x, d.y))),
+        Pair::Refused(e) => Direction::Refused(e),
     }
 }
 
@@ -206,7 +216,11 @@ impl EvenAsphere {
         if !can_be_met(self.is_good(), self.semi, ray, vertex) {
             return Crossing::Refused(Refusal::InvalidParameter);
         }
-        let a = self.coefficients;
+        let even = self.coefficients;
+        let a = Polynomial {
+            even,
+            odd: no_coefficients(),
+        };
         let profile = Profile::Even {
             c: self.curvature,
             k: self.conic,
@@ -215,12 +229,6 @@ impl EvenAsphere {
         let crossing = end.crossing;
         checked_crossing(crossing)
     }
-}
-
-fn first_or_zero(a: Coefficients) -> f64
-    ensures { λ x. ⌜ x ≡ firstOr0 (terms a) ⌝ }
-{
-    if a.count == 0usize { 0.0 } else { a.values[0] }
 }
 
 // Rust's curvature, conic_constant, semi_diameter_mm, even_coefficients and odd_coefficients.
@@ -238,73 +246,35 @@ pub struct NewOdd {
 }
 
 // The Rust's OddAsphere::sag, c r² / (1 + √(1 - (1 + k) c² r²)) + Σ aᵢ r²ⁱ + Σ bᵢ r²ⁱ⁻¹.
-fn raw_odd_sag(s: OddAsphere, r: f64) -> Sag
-    ensures { λ z. ⌜ toldSag z ≡ oddSag s r ⌝ }
+fn raw_odd_sag(c: f64, k: f64, a: Polynomial, r: f64) -> Sag
+    ensures { λ z. ⌜ toldSag z ≡ oddSag c k a r ⌝ }
 {
-    if !is_finite(r) | (r < 0.0) {
-        return Sag::Refused(Refusal::InvalidParameter);
-    }
-    let r2 = r * r;
-    let even = s.even.values;
-    let odd = s.odd.values;
-    match base_root(s.curvature, s.conic, r2, r2) {
-        EdgeRoot::Given(root) => {
-            Sag::Given(
-                base_sag_from(s.curvature, r2, root)
-                    + power_sum(even, s.even.count, r2, r2)
-                    + power_sum(odd, s.odd.count, r, r2),
-            )
+    sag_of(odd_depth(c, k, a, r, r * r))
+}
+
+// The slopes in OddAsphere::normal off the axis, with a guess at r * r. Near the axis the slope counts as along x.
+fn odd_slopes_at(c: f64, k: f64, a: Polynomial, x: f64, y: f64, r: f64, near: f64) -> Pair
+    ensures { λ m. ⌜ toldPair m ≡ oddSlopesAt c k a x y r ⌝ }
+{
+    match base_root(c, k, r * r, near) {
+        EdgeRoot::Given(s) => {
+            let d = odd_slope_from(c, a, r, s);
+            Pair::Given(radial_slopes(Meridians { x: d, y: 0.0 }, d, x, y, r))
         }
-        EdgeRoot::Outside => Sag::Refused(Refusal::GeometryOutsideAperture),
+        EdgeRoot::Outside => Pair::Refused(Refusal::GeometryOutsideAperture),
     }
 }
 
-// The base's slope in OddAsphere::normal, whose root is at least 1e-15.
-fn odd_base_slope_from(c: f64, r: f64, s: f64) -> f64
-    ensures { λ d. ⌜ d ≡ oddBaseSlopeFrom c r s ⌝ }
+// The Rust's OddAsphere::normal, as the even one's, without a test of its length.
+pub(crate) fn raw_odd_normal(c: f64, k: f64, a: Polynomial, x: f64, y: f64) -> Direction
+    ensures { λ v. ⌜ toldDirection v ≡ oddNormal c k a x y ⌝ }
 {
-    if abs(c) < 1e-15 {
-        0.0
-    } else {
-        (c * r) / max(s, 1e-15)
-    }
-}
-
-// The slope in OddAsphere::normal, c r / √(1 - (1 + k) c² r²) + Σ 2i aᵢ r²ⁱ⁻¹ + Σ (2i - 1) bᵢ r²ⁱ⁻².
-fn raw_odd_slope(s: OddAsphere, r: f64) -> Number
-    ensures { λ d. ⌜ toldNumber d ≡ oddSlope s r ⌝ }
-{
-    let r2 = r * r;
-    let even = s.even.values;
-    let odd = s.odd.values;
-    match base_root(s.curvature, s.conic, r2, r2) {
-        EdgeRoot::Given(root) => {
-            Number::Given(
-                odd_base_slope_from(s.curvature, r, root)
-                    + slope_sum(even, s.even.count, 2.0, r, r2)
-                    + slope_sum(odd, s.odd.count, 1.0, 1.0, r2),
-            )
-        }
-        EdgeRoot::Outside => Number::Refused(Refusal::GeometryOutsideAperture),
-    }
-}
-
-// The Rust's OddAsphere::normal, as the even one's. Near the axis the slope counts as along x.
-fn raw_odd_normal(s: OddAsphere, x: f64, y: f64) -> Direction
-    ensures { λ v. ⌜ toldDirection v ≡ oddNormal s x y ⌝ }
-{
-    let r = sqrt(x * x + y * y);
-    let odd = s.odd;
-    if (r < 1e-15) & (abs(first_or_zero(odd)) < 1e-14) {
+    let sq = x * x + y * y;
+    let r = sqrt(sq);
+    if odd_on_axis(a, r) {
         return Direction::Given(backwards());
     }
-    match raw_odd_slope(s, r) {
-        Number::Given(d) => {
-            let m = radial_slopes(Meridians { x: d, y: 0.0 }, d, x, y, r);
-            Direction::Given(facing(m.x, m.y, length_of(m.x, m.y)))
-        }
-        Number::Refused(e) => Direction::Refused(e),
-    }
+    normal_of(odd_slopes_at(c, k, a, x, y, r, sq))
 }
 
 impl OddAsphere {
@@ -354,13 +324,21 @@ impl OddAsphere {
             & coefficients_good(odd)
     }
 
+    fn powers(self) -> Polynomial
+        ensures { λ a. ⌜ a ≡ powersOf self ⌝ }
+    {
+        let even = self.even;
+        let odd = self.odd;
+        Polynomial { even, odd }
+    }
+
     pub fn sag(self, r: f64) -> Sag
         ensures { λ z. ⌜ toldSag z ≡ oddSagAnswer self r ⌝ }
     {
         if !(is_finite(r) & self.is_good()) {
             return Sag::Refused(Refusal::InvalidParameter);
         }
-        checked_sag(raw_odd_sag(self, r))
+        checked_sag(raw_odd_sag(self.curvature, self.conic, self.powers(), r))
     }
 
     pub fn normal(self, x: f64, y: f64) -> Direction
@@ -369,6 +347,22 @@ impl OddAsphere {
         if !(is_finite(x) & is_finite(y) & self.is_good()) {
             return Direction::Refused(Refusal::InvalidParameter);
         }
-        checked_direction(raw_odd_normal(self, x, y))
+        checked_direction(raw_odd_normal(self.curvature, self.conic, self.powers(), x, y))
+    }
+
+    // The Rust has none: Newton's method as for a biconic.
+    pub fn intersect_ray(self, ray: Ray, vertex: f64) -> Crossing
+        ensures { λ x. ⌜ toldCrossing x ≡ oddCrossingAnswer self ray vertex ⌝ }
+    {
+        if !can_be_met(self.is_good(), self.semi, ray, vertex) {
+            return Crossing::Refused(Refusal::InvalidParameter);
+        }
+        let profile = Profile::Odd {
+            c: self.curvature,
+            k: self.conic,
+        };
+        let end = newton(profile, self.powers(), self.semi, vertex, ray);
+        let crossing = end.crossing;
+        checked_crossing(crossing)
     }
 }

@@ -4,14 +4,13 @@
 ghost use mathlib.Core.Path.{_≡_};
 ghost use Rattle.surfaces.specs.Refusal.{toldSag, toldPair, toldDirection, toldCrossing, toldBiconic, toldToroid};
 ghost use Rattle.surfaces.specs.Conic.{radiusOf};
-ghost use Rattle.surfaces.specs.Biconic.{biconicSag, biconicSlopes, normalOf, biconicNormal, biconicGood};
+ghost use Rattle.surfaces.specs.Biconic.{biconicSag, biconicSlopes, biconicNormal, biconicGood};
 ghost use Rattle.surfaces.specs.Biconic.{newBiconicAnswer, biconicSagAnswer, biconicSlopesAnswer};
 ghost use Rattle.surfaces.specs.Biconic.{biconicNormalAnswer, biconicCrossingAnswer, biconicParaxialAnswer};
 ghost use Rattle.surfaces.specs.Biconic.{toroidSag, circleSlopes, toroidSlopes, toroidNormal, toroidGood};
 ghost use Rattle.surfaces.specs.Biconic.{newToroidAnswer, toroidSagAnswer, toroidSlopesAnswer};
 ghost use Rattle.surfaces.specs.Biconic.{toroidNormalAnswer, toroidCrossingAnswer};
-use crate::asphere::facing;
-use crate::asphere::length_of;
+use crate::asphere::normal_of;
 use crate::conic::radius_of;
 use crate::newton::Profile;
 use crate::newton::can_be_met;
@@ -41,7 +40,7 @@ use crate::sags::slope_radicand;
 use crate::sags::toroid_depth;
 use crate::types::Meridians;
 use crate::types::Ray;
-use crate::types::no_coefficients;
+use crate::types::no_polynomial;
 use numbers::is_finite;
 use numbers::sqrt;
 
@@ -75,16 +74,6 @@ fn raw_biconic_slopes(cx: f64, kx: f64, cy: f64, ky: f64, x: f64, y: f64) -> Pai
     match edge_root(biconic_radicand(cx, kx, cy, ky, x, y)) {
         EdgeRoot::Given(s) => biconic_slopes_at(cx, kx, cy, ky, x, y, numerator(cx, cy, x, y), s),
         EdgeRoot::Outside => Pair::Refused(Refusal::GeometryOutsideAperture),
-    }
-}
-
-// The unit vector of (∂z/∂x, ∂z/∂y, -1), against the light; it has no test of its own.
-fn normal_of(m: Pair) -> Direction
-    ensures { λ v. ⌜ toldDirection v ≡ normalOf (toldPair m) ⌝ }
-{
-    match m {
-        Pair::Given(d) => Direction::Given(facing(d.x, d.y, length_of(d.x, d.y))),
-        Pair::Refused(e) => Direction::Refused(e),
     }
 }
 
@@ -173,7 +162,7 @@ impl BiconicSurface {
             cy: self.cy,
             ky: self.ky,
         };
-        let end = newton(profile, no_coefficients(), self.semi, vertex, ray);
+        let end = newton(profile, no_polynomial(), self.semi, vertex, ray);
         let crossing = end.crossing;
         checked_crossing(crossing)
     }
@@ -300,7 +289,7 @@ impl ToroidalSurface {
             cy: self.cy,
             ky: self.ky,
         };
-        let end = newton(profile, no_coefficients(), self.semi, vertex, ray);
+        let end = newton(profile, no_polynomial(), self.semi, vertex, ray);
         let crossing = end.crossing;
         checked_crossing(crossing)
     }

@@ -4,7 +4,7 @@
 ghost use mathlib.Core.Path.{_≡_};
 ghost use Rattle.numbers.specs.Arithmetic.{0f};
 ghost use Rattle.numbers.specs.Root.{root};
-ghost use Rattle.surfaces.specs.Types.{noCoefficients};
+ghost use Rattle.surfaces.specs.Types.{noPolynomial};
 ghost use Rattle.surfaces.specs.Refusal.{noCrossing, toldPair, toldCrossing, toldPassed};
 ghost use Rattle.surfaces.specs.Newton.{arrivedAt, movedBy, passAt, vertexPlane, newtonEnd, canBeMet, passStart};
 ghost use Rattle.surfaces.specs.Newton.{nextPass, limitedPass};
@@ -18,11 +18,13 @@ use crate::sags::biconic_depth;
 use crate::sags::biconic_slopes_from;
 use crate::sags::even_depth;
 use crate::sags::even_slopes_from;
+use crate::sags::odd_depth;
+use crate::sags::odd_slopes_from;
 use crate::sags::toroid_depth;
 use crate::sags::toroid_slopes_from;
-use crate::types::Coefficients;
 use crate::types::Landing;
 use crate::types::Meridians;
+use crate::types::Polynomial;
 use crate::types::Ray;
 use crate::types::Vec3;
 use crate::types::point_at;
@@ -35,6 +37,8 @@ use numbers::sqrt;
 // How many passes each kind may take.
 pub const STEPS_EVEN_ASPHERE: u16 = 25;
 
+pub const STEPS_ODD_ASPHERE: u16 = 25;
+
 pub const STEPS_BICONIC: u16 = 35;
 
 pub const STEPS_TOROID: u16 = 35;
@@ -42,6 +46,7 @@ pub const STEPS_TOROID: u16 = 35;
 // The kinds that Newton's method meets.
 pub(crate) enum Profile {
     Even { c: f64, k: f64 },
+    Odd { c: f64, k: f64 },
     Biconic { cx: f64, kx: f64, cy: f64, ky: f64 },
     Toroid { rx: f64, cy: f64, ky: f64 },
 }
@@ -60,22 +65,26 @@ pub(crate) struct End {
 }
 
 // The sag at p, from what its distance from the axis is the root of.
-fn depth(q: Profile, a: Coefficients, p: Vec3, sq: f64) -> Depth
+fn depth(q: Profile, a: Polynomial, p: Vec3, sq: f64) -> Depth
     ensures { λ d. ⌜ toldDepth d ≡ depthOf q a (root sq) p ⌝ }
 {
+    let even = a.even;
     match q {
-        Profile::Even { c, k } => even_depth(c, k, a, sqrt(sq), sq),
+        Profile::Even { c, k } => even_depth(c, k, even, sqrt(sq), sq),
+        Profile::Odd { c, k } => odd_depth(c, k, a, sqrt(sq), sq),
         Profile::Biconic { cx, kx, cy, ky } => biconic_depth(cx, kx, cy, ky, p.x, p.y),
         Profile::Toroid { rx, cy, ky } => toroid_depth(rx, cy, ky, p.x, p.y),
     }
 }
 
 // The slopes at p, from what the sag there had.
-fn slopes_from(q: Profile, a: Coefficients, p: Vec3, root: f64, part: f64, base: f64) -> Pair
+fn slopes_from(q: Profile, a: Polynomial, p: Vec3, root: f64, part: f64, base: f64) -> Pair
     ensures { λ m. ⌜ toldPair m ≡ slopesFrom q a p root part base ⌝ }
 {
+    let even = a.even;
     match q {
-        Profile::Even { c, k: _ } => even_slopes_from(c, a, p.x, p.y, part, root),
+        Profile::Even { c, k: _ } => even_slopes_from(c, even, p.x, p.y, part, root),
+        Profile::Odd { c, k: _ } => Pair::Given(odd_slopes_from(c, a, p.x, p.y, part, root)),
         Profile::Biconic { cx, kx, cy, ky } => biconic_slopes_from(
             cx,
             kx,
@@ -101,10 +110,11 @@ fn slopes_from(q: Profile, a: Coefficients, p: Vec3, root: f64, part: f64, base:
 
 // Whether r is checked where the move is small: not on an even asphere.
 fn checks_last(q: Profile) -> bool
-    ensures { λ b. ⌜ b ≡ shapeOf q noCoefficients 0f .checksLast ⌝ }
+    ensures { λ b. ⌜ b ≡ shapeOf q noPolynomial 0f .checksLast ⌝ }
 {
     match q {
         Profile::Even { c: _, k: _ } => false,
+        Profile::Odd { c: _, k: _ } => true,
         Profile::Biconic {
             cx: _,
             kx: _,
@@ -120,10 +130,11 @@ fn checks_last(q: Profile) -> bool
 }
 
 pub(crate) fn profile_limit(q: Profile) -> u16
-    ensures { λ n. ⌜ n ≡ shapeOf q noCoefficients 0f .limit ⌝ }
+    ensures { λ n. ⌜ n ≡ shapeOf q noPolynomial 0f .limit ⌝ }
 {
     match q {
         Profile::Even { c: _, k: _ } => STEPS_EVEN_ASPHERE,
+        Profile::Odd { c: _, k: _ } => STEPS_ODD_ASPHERE,
         Profile::Biconic {
             cx: _,
             kx: _,
@@ -182,7 +193,7 @@ fn missed() -> Passed
 }
 
 // A pass from t.
-fn pass_at(q: Profile, a: Coefficients, semi: f64, vertex: f64, ray: Ray, t: f64) -> Passed
+fn pass_at(q: Profile, a: Polynomial, semi: f64, vertex: f64, ray: Ray, t: f64) -> Passed
     ensures { λ x. ⌜ toldPassed x ≡ passAt (shapeOf q a semi) vertex ray t ⌝ }
 {
     let p = point_at(ray, t);
@@ -233,7 +244,7 @@ fn pass_start(vertex: f64, ray: Ray, made: u16, t: f64) -> f64
 // The pass after `made` passes. It has one place where it passes, so that the compiler can put that here.
 fn next_pass(
     q: Profile,
-    a: Coefficients,
+    a: Polynomial,
     semi: f64,
     vertex: f64,
     ray: Ray,
@@ -251,7 +262,7 @@ fn next_pass(
 // The same, where the last pass that is allowed ends in a miss at worst.
 pub(crate) fn limited_pass(
     q: Profile,
-    a: Coefficients,
+    a: Polynomial,
     semi: f64,
     vertex: f64,
     ray: Ray,
@@ -275,7 +286,7 @@ pub(crate) fn limited_pass(
 }
 
 // The Rust's intersect_ray of these kinds, with the passes that it took.
-pub(crate) fn newton(q: Profile, a: Coefficients, semi: f64, vertex: f64, ray: Ray) -> End
+pub(crate) fn newton(q: Profile, a: Polynomial, semi: f64, vertex: f64, ray: Ray) -> End
     ensures { λ e. ⌜ toldEnd e ≡ newtonEnd (shapeOf q a semi) vertex ray ⌝ }
 {
     let mut t = 0.0;

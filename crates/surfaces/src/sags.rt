@@ -3,12 +3,14 @@ ghost use mathlib.Core.Path.{_≡_};
 ghost use lib.ListN.{take};
 ghost use Rattle.surfaces.specs.Refusal.{toldNumber, toldSag, toldPair};
 ghost use Rattle.surfaces.specs.Sags.{edgeRoot};
-ghost use Rattle.surfaces.specs.Asphere.{powerSum, slopeSum, radialSlopes};
+ghost use Rattle.surfaces.specs.Types.{terms};
+ghost use Rattle.surfaces.specs.Asphere.{powerSum, slopeSum, radialSlopes, firstOr0, oddOnAxis};
 ghost use Rattle.surfaces.specs.Biconic.{numeratorOf, biconicRadicand, onAxis, meridianSlope, biconicSlopesAt};
 ghost use Rattle.surfaces.specs.Biconic.{baseCurveRadicand, baseCurveSag, slopeRadicand, baseCurveSlope};
 ghost use Rattle.surfaces.specs.Biconic.{circleSlopesAt};
 ghost use Rattle.surfaces.specs.Parts.{toldEdgeRoot, baseRoot, baseSagFrom, baseSlopeFrom, toldDepth, sagOf};
-ghost use Rattle.surfaces.specs.Parts.{evenDepth, evenSlopeFrom, evenSlopesFrom, biconicDepth, biconicSlopesFrom};
+ghost use Rattle.surfaces.specs.Parts.{evenDepth, evenSlopeFrom, evenSlopesFrom, oddDepth, oddBaseSlopeFrom};
+ghost use Rattle.surfaces.specs.Parts.{oddSlopeFrom, oddSlopesFrom, biconicDepth, biconicSlopesFrom};
 ghost use Rattle.surfaces.specs.Parts.{circleDepth, toroidDepth, toroidSlopesFrom};
 use crate::conic::sign_of;
 use crate::refusal::Number;
@@ -18,6 +20,7 @@ use crate::refusal::Sag;
 use crate::types::Coefficients;
 use crate::types::MOST_COEFFICIENTS;
 use crate::types::Meridians;
+use crate::types::Polynomial;
 use crate::waits::base_curve_guess;
 use crate::waits::root_again;
 use crate::waits::root_beside;
@@ -28,8 +31,8 @@ use numbers::max;
 // How far below 0 a radicand may lie in every sag but the conic's.
 const RADICAND_TOLERANCE: f64 = 1e-12;
 
-// A raw sag, with what the slopes at the same point need of it: its root; an even asphere's r, a biconic's numerator or
-// a toroid's circle; and the root of a toroid's base curve. It names its refusals itself: a Refusal in here would slow
+// A raw sag, with what the slopes at the same point need of it: its root; an asphere's r, a biconic's numerator or a
+// toroid's circle; and the root of a toroid's base curve. It names its refusals itself: a Refusal in here would slow
 // down every pass.
 pub(crate) enum Depth {
     Given {
@@ -76,7 +79,7 @@ pub(crate) fn base_root(c: f64, k: f64, r2: f64, near: f64) -> EdgeRoot
     edge_root_beside(1.0 - (1.0 + k) * c * c * r2, 1.0 - (1.0 + k) * c * c * near)
 }
 
-pub(crate) fn base_sag_from(c: f64, r2: f64, s: f64) -> f64
+fn base_sag_from(c: f64, r2: f64, s: f64) -> f64
     ensures { λ r. ⌜ r ≡ baseSagFrom c r2 s ⌝ }
 {
     if abs(c) < 1e-15 {
@@ -99,7 +102,7 @@ fn base_slope_from(c: f64, r: f64, s: f64) -> Number
 }
 
 // The first n coefficients, each times its power of r: the first power is given, the next is r2 times it.
-pub(crate) fn power_sum(values: [f64; MOST_COEFFICIENTS], n: usize, power: f64, r2: f64) -> f64
+fn power_sum(values: [f64; MOST_COEFFICIENTS], n: usize, power: f64, r2: f64) -> f64
     ensures { λ r. ⌜ r ≡ powerSum (take n values) power r2 ⌝ }
 {
     let mut sum = 0.0;
@@ -117,13 +120,7 @@ pub(crate) fn power_sum(values: [f64; MOST_COEFFICIENTS], n: usize, power: f64, 
 }
 
 // The slope of such a sum: each term also times its exponent, the first of which is given.
-pub(crate) fn slope_sum(
-    values: [f64; MOST_COEFFICIENTS],
-    n: usize,
-    exponent: f64,
-    power: f64,
-    r2: f64,
-) -> f64
+fn slope_sum(values: [f64; MOST_COEFFICIENTS], n: usize, exponent: f64, power: f64, r2: f64) -> f64
     ensures { λ r. ⌜ r ≡ slopeSum (take n values) exponent power r2 ⌝ }
 {
     let mut sum = 0.0;
@@ -197,6 +194,79 @@ pub(crate) fn even_slopes_from(c: f64, a: Coefficients, x: f64, y: f64, r: f64, 
         Number::Given(d) => Pair::Given(radial_slopes(Meridians { x: 0.0, y: 0.0 }, d, x, y, r)),
         Number::Refused(e) => Pair::Refused(e),
     }
+}
+
+// The Rust's OddAsphere::sag, the even one's and b₁ r + b₂ r³ + ... `near` is a guess at r * r.
+pub(crate) fn odd_depth(c: f64, k: f64, a: Polynomial, r: f64, near: f64) -> Depth
+    ensures { λ d. ⌜ toldDepth d ≡ oddDepth c k a r ⌝ }
+{
+    if !is_finite(r) | (r < 0.0) {
+        return Depth::Invalid;
+    }
+    let r2 = r * r;
+    let even = a.even.values;
+    let odd = a.odd.values;
+    match base_root(c, k, r2, near) {
+        EdgeRoot::Given(s) => {
+            Depth::Given {
+                sag: base_sag_from(c, r2, s)
+                    + power_sum(even, a.even.count, r2, r2)
+                    + power_sum(odd, a.odd.count, r, r2),
+                root: s,
+                part: r,
+                base: 0.0,
+            }
+        }
+        EdgeRoot::Outside => Depth::Outside,
+    }
+}
+
+// The base's slope in OddAsphere::normal, whose root is at least 1e-15.
+fn odd_base_slope_from(c: f64, r: f64, s: f64) -> f64
+    ensures { λ d. ⌜ d ≡ oddBaseSlopeFrom c r s ⌝ }
+{
+    if abs(c) < 1e-15 {
+        0.0
+    } else {
+        (c * r) / max(s, 1e-15)
+    }
+}
+
+// dz/dr = c r / s + 2 a₁ r + 4 a₂ r³ + .. + b₁ + 3 b₂ r² + .., from the base's root s; nowhere singular.
+pub(crate) fn odd_slope_from(c: f64, a: Polynomial, r: f64, s: f64) -> f64
+    ensures { λ d. ⌜ d ≡ oddSlopeFrom c a r s ⌝ }
+{
+    let r2 = r * r;
+    let even = a.even.values;
+    let odd = a.odd.values;
+    odd_base_slope_from(c, r, s)
+        + slope_sum(even, a.even.count, 2.0, r, r2)
+        + slope_sum(odd, a.odd.count, 1.0, 1.0, r2)
+}
+
+pub(crate) fn first_or_zero(a: Coefficients) -> f64
+    ensures { λ x. ⌜ x ≡ firstOr0 (terms a) ⌝ }
+{
+    if a.count == 0usize { 0.0 } else { a.values[0] }
+}
+
+// Where an odd asphere's normal is the axis: at r about 0, unless b₁ makes a cone there.
+pub(crate) fn odd_on_axis(a: Polynomial, r: f64) -> bool
+    ensures { λ b. ⌜ b ≡ oddOnAxis a r ⌝ }
+{
+    let odd = a.odd;
+    (r < 1e-15) & (abs(first_or_zero(odd)) < 1e-14)
+}
+
+// The slopes of a Newton pass, from the root that the sag there had. Near the axis the slope counts as along x.
+pub(crate) fn odd_slopes_from(c: f64, a: Polynomial, x: f64, y: f64, r: f64, s: f64) -> Meridians
+    ensures { λ m. ⌜ m ≡ oddSlopesFrom c a x y r s ⌝ }
+{
+    if odd_on_axis(a, r) {
+        return Meridians { x: 0.0, y: 0.0 };
+    }
+    let d = odd_slope_from(c, a, r, s);
+    radial_slopes(Meridians { x: d, y: 0.0 }, d, x, y, r)
 }
 
 // The sag of a biconic is this over 1 and its root.

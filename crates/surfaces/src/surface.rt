@@ -4,6 +4,7 @@ ghost use Rattle.surfaces.specs.Refusal.{toldDirection, toldPassed, told
 ghost use Rattle.surfaces.specs.Surface.{conicOf, passAnswer, limitOf, surfaceNormal, onwardFrom, turnAnswer};
 ghost use Rattle.surfaces.specs.Parts.{familyOf};
 use crate::asphere::raw_even_normal;
+use crate::asphere::raw_odd_normal;
 use crate::biconic::raw_biconic_normal;
 use crate::biconic::raw_toroid_normal;
 use crate::conic::ConicSurface;
@@ -18,7 +19,7 @@ use crate::refusal::Direction;
 use crate::refusal::Refusal;
 use crate::snell::raw_reflect;
 use crate::snell::raw_snell_refract;
-use crate::types::Coefficients;
+use crate::types::Polynomial;
 use crate::types::Ray;
 use crate::types::Vec3;
 use crate::types::dot;
@@ -26,11 +27,12 @@ use crate::types::dot;
 // A conic is met in one step.
 pub const STEPS_CONIC: u16 = 1;
 
-// A conic has c and k; an even asphere c and k, with coefficients beside; a biconic cx, kx, cy and ky; a toroid rx, cy
-// and ky.
+// A conic has c and k; an asphere c and k, with its polynomial beside; a biconic cx, kx, cy and ky; a toroid rx, cy and
+// ky.
 pub enum Kind {
     Conic { c: f64, k: f64 },
     Even { c: f64, k: f64 },
+    Odd { c: f64, k: f64 },
     Biconic { cx: f64, kx: f64, cy: f64, ky: f64 },
     Toroid { rx: f64, cy: f64, ky: f64 },
 }
@@ -39,7 +41,7 @@ pub struct Surface {
     pub vertex: f64,
     pub semi: f64,
     pub kind: Kind,
-    pub coefficients: Coefficients,
+    pub polynomial: Polynomial,
 }
 
 // A conic is met as a whole, the other kinds by passes.
@@ -65,6 +67,7 @@ fn family_of(kind: Kind) -> Family
     match kind {
         Kind::Conic { c, k } => Family::Conic { c, k },
         Kind::Even { c, k } => Family::Newton(Profile::Even { c, k }),
+        Kind::Odd { c, k } => Family::Newton(Profile::Odd { c, k }),
         Kind::Biconic { cx, kx, cy, ky } => Family::Newton(Profile::Biconic { cx, kx, cy, ky }),
         Kind::Toroid { rx, cy, ky } => Family::Newton(Profile::Toroid { rx, cy, ky }),
     }
@@ -74,7 +77,7 @@ fn family_of(kind: Kind) -> Family
 pub fn pass(s: Surface, ray: Ray, made: u16, t: f64) -> Passed
     ensures { λ x. ⌜ toldPassed x ≡ passAnswer s ray made t ⌝ }
 {
-    let a = s.coefficients;
+    let a = s.polynomial;
     let kind = s.kind;
     match family_of(kind) {
         Family::Conic { c, k } => ended(conic_crossing(ray, conic_of(s, c, k))),
@@ -113,11 +116,13 @@ pub enum Turned {
 fn normal(s: Surface, p: Vec3) -> Direction
     ensures { λ v. ⌜ toldDirection v ≡ surfaceNormal s p ⌝ }
 {
-    let a = s.coefficients;
+    let a = s.polynomial;
+    let even = a.even;
     let kind = s.kind;
     match kind {
         Kind::Conic { c, k } => normal_at(p, conic_of(s, c, k)),
-        Kind::Even { c, k } => raw_even_normal(c, k, a, p.x, p.y),
+        Kind::Even { c, k } => raw_even_normal(c, k, even, p.x, p.y),
+        Kind::Odd { c, k } => raw_odd_normal(c, k, a, p.x, p.y),
         Kind::Biconic { cx, kx, cy, ky } => raw_biconic_normal(cx, kx, cy, ky, p.x, p.y),
         Kind::Toroid { rx, cy, ky } => raw_toroid_normal(rx, cy, ky, p.x, p.y),
     }

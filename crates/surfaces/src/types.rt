@@ -2,7 +2,7 @@
 ghost use mathlib.Core.Path.{_≡_};
 ghost use lib.ListN.{take};
 ghost use Rattle.surfaces.specs.Types.{backwards, rayOf, noRay, dotOf, overOf, pointAt, allFinite, rayFinite};
-ghost use Rattle.surfaces.specs.Types.{noCoefficients, everyFinite, coefficientsGood};
+ghost use Rattle.surfaces.specs.Types.{noCoefficients, noPolynomial, everyFinite, coefficientsGood};
 use numbers::is_finite;
 
 pub struct Vec3 {
@@ -65,6 +65,12 @@ pub const MOST_COEFFICIENTS: usize = 8;
 pub struct Coefficients {
     pub count: usize,
     pub values: [f64; MOST_COEFFICIENTS],
+}
+
+// An asphere's coefficients of even and of odd powers of r, which go about together.
+pub struct Polynomial {
+    pub even: Coefficients,
+    pub odd: Coefficients,
 }
 
 // Against the light, which travels along z.
@@ -143,11 +149,21 @@ pub(crate) fn coefficients_good(a: Coefficients) -> bool
     (a.count <= MOST_COEFFICIENTS) & first_finite(values, a.count)
 }
 
-pub fn no_coefficients() -> Coefficients
+pub(crate) fn no_coefficients() -> Coefficients
     ensures { λ a. ⌜ a ≡ noCoefficients ⌝ }
 {
     Coefficients {
         count: 0usize,
         values: [0.0; MOST_COEFFICIENTS],
+    }
+}
+
+// Where a surface has no powers of r.
+pub fn no_polynomial() -> Polynomial
+    ensures { λ a. ⌜ a ≡ noPolynomial ⌝ }
+{
+    Polynomial {
+        even: no_coefficients(),
+        odd: no_coefficients(),
     }
 }

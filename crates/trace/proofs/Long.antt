@@ -12,6 +12,7 @@ use lib.Dec.{eqb}
 use lib.Ieee.{Float}
 use Rattle.numbers.specs.Arithmetic.{if_then_else_}
 use Rattle.surfaces.specs.declared.types.Ray.{Ray}
+use Rattle.recipe.specs.Record.{longest}
 use Rattle.recipe.specs.Source.{sourceBytes, sourceOf}
 use Rattle.recipe.proofs.Records.{not-1}
 use Rattle.recipe.proofs.Scans.{Sound, scan-sound}
@@ -19,10 +20,10 @@ use Rattle.recipe.proofs.Length.{too-long}
 use Rattle.recipe.proofs.Sources.{source-take}
 use Rattle.trace.specs.Run.{mostRecords, blank, refusedAnswer, startAt, startOf}
 use Rattle.trace.specs.File.{startFileOf}
-use Rattle.trace.specs.Long.{Long}
+use Rattle.trace.specs.Long.{longestFile, Long}
 
-module _ (b : List ℕ) (long : 55296 < length b) (base : ℕ) (ray : Ray) (index : Float) (z : List Float) where
-  alike : startAt base b ray index z ≡ startAt base (take 55297 b) ray index z
+module _ (b : List ℕ) (long : longest < length b) (base : ℕ) (ray : Ray) (index : Float) (z : List Float) where
+  alike : startAt base b ray index z ≡ startAt base (take (longest + 1) b) ray index z
   unfolding startAt
   alike = let r = too-long b mostRecords long in rw (r .one, r .other)
 
@@ -35,16 +36,16 @@ drop-take zero n l = rw (zero-add n)
 drop-take (suc k) n [] = rw (take-nil (suc k + n), take-nil n)
 drop-take (suc k) n (x ∷ l) = let e : suc k + n ≡ suc (k + n) = omega arith in rw e (drop-take k n l)
 
-module _ (f : List ℕ) (z : List Float) (long : 55356 < length f) where
-  rest : 55296 < length (drop sourceBytes f)
+module _ (f : List ℕ) (z : List Float) (long : longestFile < length f) where
+  rest : longest < length (drop sourceBytes f)
   rest = let e = length-drop sourceBytes f in omega arith
 
-  file-alike : startFileOf f z ≡ startFileOf (take 55357 f) z
+  file-alike : startFileOf f z ≡ startFileOf (take (longestFile + 1) f) z
   unfolding startFileOf
   file-alike =
       rw (
-        source-take f 55357 (omega arith) (omega arith),
-        drop-take sourceBytes 55297 f,
+        source-take f (longestFile + 1) (omega arith) (omega arith),
+        drop-take sourceBytes (longest + 1) f,
         alike (drop sourceBytes f) rest sourceBytes (sourceOf f .ray) (sourceOf f .index) z,
       )
 

@@ -5,7 +5,7 @@ use Prim.Native.Nat.{ℕ, _+_, _*_, _^_}
 use mathlib.Core.Path.{_≡_, refl}
 use mathlib.Core.Bool.{true, false}
 use mathlib.Core.List.{List, [], _∷_, _++_, map}
-use lib.ListN.{length, replicate}
+use lib.ListN.{length, replicate, take}
 use lib.Ieee.{Float, nan, inf, binary64, ofBits, toBits, ofInt, neg, round, add, sub, mul, div, lt, le, eq, isNan}
 use Rattle.numbers.specs.Arithmetic.{decimal, 0f, 1f, 2f, 4f}
 use Rattle.numbers.specs.Basic.{magnitude, negative, larger, clamped, infinite}
@@ -16,13 +16,14 @@ use Rattle.surfaces.specs.Conic.{landedWithin, planeCrossing, conicCrossing, no
 use Rattle.surfaces.specs.Newton.{arrivedAt, movedBy, passAt, vertexPlane, passesFrom, newtonEnd, passStart, nextPass}
 use Rattle.surfaces.specs.Newton.{limitedPass}
 use Rattle.surfaces.specs.Asphere.{powerSumFrom, slopeSumFrom, baseSag, baseSlope, evenSag, evenSlope, radialSlopes}
-use Rattle.surfaces.specs.Asphere.{evenSlopes, lengthOf, facingOf, evenFacing, evenNormal}
+use Rattle.surfaces.specs.Asphere.{evenSlopes, lengthOf, facingOf, normalOf, evenFacing, evenNormal, oddSag}
+use Rattle.surfaces.specs.Asphere.{oddBaseSlope, oddSlope, oddOnAxis, oddSlopesAt, oddNormal, oddSlopes}
 use Rattle.surfaces.specs.Surface.{passAnswer, surfaceEnd, limitOf, surfaceNormal, onwardFrom, turnAnswer}
 use Rattle.surfaces.specs.Edges.{_over_, whole, bits, coordinates, Case, _⇒_, agree, ray}
 use Rattle.surfaces.specs.declared.types.Vec3.{Vec3}
 use Rattle.recipe.specs.Endian.{u16At, u64At, numberAt, numbersAt}
-use Rattle.recipe.specs.Record.{slotAt, lengthFits, shapedAt, semiSlot, kindOf, coefficientCount, coefficientsAt}
-use Rattle.recipe.specs.Record.{opticAt, negativeSemi, recordAt}
+use Rattle.recipe.specs.Record.{slotAt, lengthFits, formedAt, shapedAt, semiSlot, kindOf, oddCount, evenCount}
+use Rattle.recipe.specs.Record.{coefficientsAt, opticAt, negativeSemi, recordAt}
 use Rattle.recipe.specs.Scan.{scan, placeOf, notes}
 use Rattle.recipe.specs.Source.{isSource, vectorAt, sourceOf}
 use Rattle.trace.specs.declared.leg.Beam.{Beam}
@@ -104,6 +105,10 @@ mirror v index semi = surface 257 (v ∷ index ∷ 0f ∷ 0f ∷ semi ∷ [])
 abbrev pub bowl : Float → List ℕ
 bowl semi = surface 2 (0f ∷ 1f ∷ 0f ∷ 0f ∷ semi ∷ 1 over 8 ∷ [])
 
+-- an odd asphere at 0, c 0, into index 1, by its semi-diameter and its first coefficients of odd powers
+abbrev pub odd : Float → List Float → List ℕ
+odd semi l = surface 5 (0f ∷ 1f ∷ 0f ∷ 0f ∷ semi ∷ replicate 8 0f ++ take 8 (l ++ replicate 8 0f))
+
 -- The lens: a plane at 0 into index 2, then an even asphere of vertex z 4 into index 1, whose sag r² / 4 - r⁴ / 128
 -- at r 4 is 2 and level. A ray along z at x 4 meets the plane in 1 step and the asphere in 2, and keeps its direction.
 unfoldable pub lens : List ℕ
@@ -118,6 +123,10 @@ inside = beam (vec 4f 0f 0f) z 2f 1f
 
 abbrev pub behind : Beam
 behind = beam (vec 4f 0f (whole 6)) z 1f (whole 7)
+
+-- a beam along z far from the axis
+abbrev pub far : Beam
+far = beam (vec (whole (2 ^ 500)) 0f (neg 1f)) z 1f 0f
 
 -- the state after no step, 1, 2 and 3
 abbrev pub started : State
@@ -212,6 +221,16 @@ cases =
     shown 1 0 (state 0 0 0 0f before 2 7) (refusal (whole 7) 4f (whole 3) 2f)) ∷
     (on (bowl 2f) (λ b. wholeOf b (before .ray) 1f (stale 13)) ⇒
     shown 1 0 (state 0 0 0 0f before 1 6) (refusal (whole 6) 0f 0f 1f)) ∷
+    -- an odd asphere that rises with r, met after 2 steps; all its coefficients take part, so that far out 0 times an
+    -- overflowed power is no number, where an even asphere without any is met
+    (on (odd (whole 5) (1f ∷ [])) (λ b. wholeOf b (before .ray) 1f (stale 13)) ⇒
+    shown 1 0 (state 1 172 0 0f (beam (vec 4f 0f 4f) z 1f (whole 5)) 2 1)
+    (hit (whole 5) (vec 4f 0f 4f) (vec √½ 0f (neg √½)) z 1f 2f)) ∷
+    (on (odd (whole (2 ^ 600)) []) (λ b. wholeOf b (far .ray) 1f (stale 13)) ⇒
+    shown 1 0 (state 0 0 0 0f far 2 6) (refusal (whole 6) 0f 0f 2f)) ∷
+    (on (surface 2 (0f ∷ 1f ∷ 0f ∷ 0f ∷ whole (2 ^ 600) ∷ [])) (λ b. wholeOf b (far .ray) 1f (stale 13)) ⇒
+    shown 1 0 (state 1 44 0 0f (beam (vec (whole (2 ^ 500)) 0f 0f) z 1f 1f) 1 1)
+    (hit 1f (vec (whole (2 ^ 500)) 0f 0f) -z z 1f 1f)) ∷
     -- refused starts leave blanks and no state: a record's refusal, with its place, before the ray's; in a file the
     -- place counts from the file's start, and without a ray's record it is 10 at 0
     (on (plane 0f 1f 1f ++ plane 0f 0f 1f) (λ b. startOf b (ray (vec nan 0f 0f) z) 1f (stale 27)) ⇒
@@ -235,9 +254,10 @@ cases =
     (answered lens
     (started ∷ state 0 44 0 0f before 0 0 ∷ state 1 0 0 0f inside 1 0 ∷ state 2 104 0 0f behind 3 0 ∷ []) ⇒
     1 ∷ 12 ∷ 12 ∷ 12 ∷ []) ∷
-    -- the pass count, which is below the limit: 1 for a conic, 25 for an even asphere, 35 for a biconic or toroid
+    -- the pass count, which is below the limit: 1 for a conic, 25 for an asphere, 35 for a biconic or toroid
     (answered lens (state 0 0 1 0f before 1 0 ∷ state 1 44 24 0f inside 25 0 ∷ state 1 44 25 0f inside 25 0 ∷ []) ⇒
     12 ∷ 1 ∷ 12 ∷ []) ∷
+    (answered (odd 1f []) (state 0 0 24 0f before 24 0 ∷ state 0 0 25 0f before 25 0 ∷ []) ⇒ 1 ∷ 12 ∷ []) ∷
     (answered
     (surface 3 (0f ∷ 1f ∷ 0f ∷ 0f ∷ 0f ∷ 0f ∷ 1f ∷ []) ++ surface 4 (0f ∷ 1f ∷ 1f ∷ 0f ∷ 0f ∷ 1f ∷ []))
     (state 0 0 34 0f before 34 0 ∷ state 0 0 35 0f before 35 0
@@ -262,9 +282,9 @@ unfolding cases lens folded narrow on answered bits _over_ bytes patterns beamRe
     distance pointAt allFinite rayFinite everyFinite turnedIf negatedIf mirrored reflected bent refracted landedWithin
     planeCrossing conicCrossing normalAt arrivedAt movedBy passAt vertexPlane passesFrom newtonEnd passStart nextPass
     limitedPass powerSumFrom slopeSumFrom baseSag baseSlope evenSag evenSlope radialSlopes evenSlopes lengthOf facingOf
-    evenFacing evenNormal passAnswer surfaceEnd limitOf surfaceNormal onwardFrom turnAnswer u16At u64At numberAt
-    numbersAt slotAt lengthFits shapedAt semiSlot kindOf coefficientCount coefficientsAt opticAt negativeSemi recordAt
-    scan placeOf notes isSource vectorAt sourceOf boundaryOf share legFinite legOf beamAfter hitRow refusalRow rowOf
+    normalOf evenFacing evenNormal oddSag oddBaseSlope oddSlope oddOnAxis oddSlopesAt oddNormal oddSlopes passAnswer
+    surfaceEnd limitOf surfaceNormal onwardFrom turnAnswer u16At u64At numberAt numbersAt slotAt lengthFits formedAt
+    shapedAt semiSlot kindOf oddCount evenCount coefficientsAt opticAt negativeSemi recordAt scan placeOf notes isSource vectorAt sourceOf boundaryOf share legFinite legOf beamAfter hitRow refusalRow rowOf
     unbroken total rows padded pausedAt stateAfter surfaceLeft stepOn move advance outcomeKnown placeFits passesFit
     beamGood fitsOf refusedAnswer admission startAt startOf startFileOf continueOf wholeOf
 each-case = refl

@@ -19,7 +19,6 @@ use crate::state::State;
 use crate::state::outcome_at;
 use numbers::is_finite;
 use recipe::Checked;
-use recipe::LONGEST_RECORD;
 use recipe::ReadRecord;
 use recipe::check;
 use recipe::read_record;
@@ -38,10 +37,8 @@ pub const BUFFER_TOO_SHORT: u8 = 11;
 
 pub const STATE_DOES_NOT_FIT: u8 = 12;
 
-// How many records a recipe may have, how many bytes they take at most, and how many numbers their results.
+// How many records a recipe may have, and how many numbers their results take.
 pub const MOST_RECORDS: usize = 512;
-
-pub const MOST_RECIPE_BYTES: usize = MOST_RECORDS * LONGEST_RECORD;
 
 pub const MOST_ROOM: usize = MOST_RECORDS * RECORD_NUMBERS;
 

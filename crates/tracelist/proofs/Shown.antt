@@ -1,5 +1,5 @@
 -- The two counts in a record's line, and what of a long file may stay unread. Assumes nothing.
-use Prim.Native.Nat.{ℕ, zero, suc, _<_}
+use Prim.Native.Nat.{ℕ, zero, suc, _+_, _<_}
 use mathlib.Core.Path.{_≡_, refl, sym, _∙_, ap}
 use mathlib.Core.Logic.{_≢_}
 use mathlib.Core.List.{List}
@@ -7,6 +7,7 @@ use native.Mathlib.Omega.{arith}
 use lib.ListN.{length, take}
 use Rattle.trace.specs.Unbroken.{Trace}
 use Rattle.trace.specs.Run.{Reply}
+use Rattle.trace.specs.Long.{longestFile}
 use Rattle.trace.proofs.Long as trace
 use Rattle.tracelist.specs.Listing.{countIn, refusedLine, room, listing}
 use Rattle.tracelist.specs.Shown.{markAt, Shown}
@@ -32,12 +33,12 @@ steps-shown (off m n) (suc k) h = absurd (omega arith)
 steps-shown (hit m s) zero h = m .steps-are
 steps-shown (hit m s) (suc k) h = steps-shown s k (omega arith)
 
-long-alike : (f : List ℕ) → 55356 < length f → listing f ≡ listing (take 55357 f)
+long-alike : (f : List ℕ) → longestFile < length f → listing f ≡ listing (take (longestFile + 1) f)
 long-alike f h =
     let l = trace.long .file f room h in
     refused-listing f (l .1)
     ∙ ap (λ (r : Reply). refusedLine (r .answer .number) (r .answer .place)) (l .0)
-    ∙ sym (refused-listing (take 55357 f) (λ e. l .1 (ap (λ (r : Reply). r .answer .number) (l .0) ∙ e)))
+    ∙ sym (refused-listing (take (longestFile + 1) f) (λ e. l .1 (ap (λ (r : Reply). r .answer .number) (l .0) ∙ e)))
 
 pub shown : Shown
 shown =

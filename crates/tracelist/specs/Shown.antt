@@ -1,5 +1,5 @@
 -- What the two counts in a record's line are, and what of a long file a program may leave unread. Definitions only.
-use Prim.Native.Nat.{ℕ, _<_}
+use Prim.Native.Nat.{ℕ, _+_, _<_}
 use mathlib.Core.Path.{_≡_}
 use mathlib.Core.Logic.{_≢_}
 use mathlib.Core.List.{List, []}
@@ -7,6 +7,7 @@ use lib.ListN.{length, take, getD}
 use Rattle.recipe.specs.declared.record.Optic.{Optic}
 use Rattle.trace.specs.declared.leg.Beam.{Beam}
 use Rattle.trace.specs.Unbroken.{Mark, Trace, unbroken}
+use Rattle.trace.specs.Long.{longestFile}
 use Rattle.tracelist.specs.Listing.{countIn, listing}
 
 -- a trace's record of a number, and none past the last
@@ -26,5 +27,5 @@ pub record Shown : Type 0 where
   pub steps : (first : ℕ) (l : List Optic) (b : Beam) (k : ℕ) →
       let u = unbroken first l b in
       k < length (u .marks) → countIn (markAt u k .row) 12 ≡ markAt u k .steps
-  -- a file longer than 55,356 bytes is told by its first 55,357
-  pub long : (f : List ℕ) → 55356 < length f → listing f ≡ listing (take 55357 f)
+  -- a file longer than the longest is told by so many of its bytes and one
+  pub long : (f : List ℕ) → longestFile < length f → listing f ≡ listing (take (longestFile + 1) f)

@@ -4,28 +4,31 @@ use native.Mathlib.Omega.{arith}
 use borrow.Author.Needs.{needs}
 use borrow.Author.Tests.{le-leb, lt-leb}
 use lib.ListN.{length}
-use Rattle.recipe.specs.Record.{shapedAt}
-use Rattle.recipe.proofs.Shapes.{room-test}
+use Rattle.recipe.specs.Record.{formedAt, shapedAt}
+use Rattle.recipe.proofs.Shapes.{room-test, begins-late}
 use Rattle.recipe.proofs.record.is_shaped.Statement.{statement}
 use Rattle.recipe.proofs.record.is_shaped.Tie as tie
 
 -- the start, from where there is room for length and kind
-abbrev start : tie.Else2 → tie.Start
-start c = c .before .before .before
+abbrev start : tie.Else3 → tie.Start
+start c = c .before .before .before .before
 
 pub is-shaped-spec : {M : Type 1} → statement M
-unfolding shapedAt
+unfolding shapedAt formedAt
 is-shaped-spec =
     tie.close
     (tie.spec
     (λ c. let a = c .before .before .args in rw (lt-leb (a .at + 4) (length (a .s .now)) (omega arith)))
+    (λ c. let a = c .before .before .before .args in rw (begins-late (a .s .now) (a .at) (omega arith)))
     (λ c. search needs)
-    (λ c. let a = c .before .before .before .args in rw (lt-leb (a .at + 4) (length (a .s .now)) (omega arith)))
+    (λ c. let a = c .before .before .before .before .args in rw (lt-leb (a .at + 4) (length (a .s .now)) (omega arith)))
     (λ c κs. search needs)
     (λ c. search needs)
     (λ c κs. search needs)
     (λ c. search needs)
     (λ c κs. tt)
+    (λ c. search needs)
+    (λ c. search needs)
     (λ c.
     let kind = c .before in
     let len = kind .before in

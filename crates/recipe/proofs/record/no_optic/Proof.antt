@@ -10,4 +10,4 @@ no-optic-spec =
     tie.close
     (tie.spec
     (λ c κs. tt)
-    (λ c. rw (← c .no-coefficients .ensures)))
+    (λ c. rw (← c .no-polynomial .ensures)))

@@ -8,9 +8,13 @@ use Rattle.recipe.proofs.Shapes.{Shape, shape}
 use Rattle.recipe.proofs.record.optic_at.Statement.{statement}
 use Rattle.recipe.proofs.record.optic_at.Tie as tie
 
--- where length and kind are read, from where the semi-diameter is
-abbrev read : tie.After-slot2 → tie.After-u16-at2
-read c = c .before .before .before
+-- where length and kind are read, from where the coefficients are
+abbrev read : tie.After-coefficients-at2 → tie.After-u16-at2
+read c = c .before .before .before .before
+
+-- where the coefficients are, from where the semi-diameter is
+abbrev terms : tie.After-slot2 → tie.After-coefficients-at2
+terms c = c .before .before .before
 
 -- what the shape tells of the places behind them
 places : (r : tie.After-u16-at2) →
@@ -27,25 +31,32 @@ optic-at-spec =
     (λ c. let f = shape _ _ (c .before .before .pre) refl refl in omega arith)
     (λ c κs. let f = shape _ _ (c .before .before .pre) refl refl in omega arith)
     (λ c κs. let f = places c in omega arith)
+    (λ c. let f = places (c .before) in omega arith)
+    (λ c κs. let f = places (c .before) in (omega arith, omega arith))
+    (λ c. let f = places (c .before .before) in omega arith)
+    (λ c. let f = places (c .before .before) in omega arith)
     (λ c κs. tt)
-    (λ c κs. let f = places (c .before .before) in omega arith)
+    (λ c κs. let f = places (c .before .before .before) in (omega arith, omega arith))
     (λ c κs. let f = places (read c) in omega arith)
-    (λ c. let f = places (read (c .before)) in omega arith)
-    (λ c κs. let f = places (read (c .before)) in omega arith)
+    (λ c κs. tt)
     (λ c κs. let f = places (read (c .before .before)) in omega arith)
-    (λ c κs. let f = places (read (c .before .before .before)) in omega arith)
+    (λ c κs. let f = places (read (terms c)) in omega arith)
+    (λ c κs. let f = places (read (terms (c .before))) in omega arith)
     (λ c.
-    let kind = c .before .before .before in
-    let semi = kind .before in
-    let r = read semi in
+    let semi = c .before .before in
+    let odd = terms semi in
+    let even = odd .before .before in
+    let r = read odd in
     rw (
       ← r .before .u16-at .ensures .0,
       ← r .u16-at2 .ensures .0,
       ← semi .before .before .slot .ensures,
       ← semi .before .semi-slot .ensures,
       ← semi .slot2 .ensures,
-      ← kind .kind-at .ensures,
-      ← c .before .before .coefficient-count .ensures,
-      ← c .before .coefficients-at .ensures,
+      ← c .before .kind-at .ensures,
+      ← even .before .even-count .ensures,
+      ← even .coefficients-at .ensures,
+      ← odd .before .odd-count .ensures,
+      ← odd .coefficients-at2 .ensures,
       ← c .slot3 .ensures,
     )))

@@ -1,38 +1,13 @@
--- Drafted (tools/draft): opens nothing; first Depths.odd-sag _ _.
+-- Drafted (tools/draft): opens nothing; first ← Depths.odd-sag _ _ _ _.
 -- By the tests and the calls, in order. Assumes nothing.
-use borrow.Author.Needs.{needs}
-use lib.Ieee.{ofBits}
-use Rattle.numbers.specs.Arithmetic.{decimal}
 use Rattle.surfaces.proofs.Depths.{odd-sag}
 use Rattle.surfaces.proofs.asphere.raw_odd_sag.Statement.{statement}
 use Rattle.surfaces.proofs.asphere.raw_odd_sag.Tie as tie
 
 pub raw-odd-sag-spec : {M : Type 1} → statement M
-unfolding decimal ofBits
 raw-odd-sag-spec =
     tie.close
     (tie.spec
     (λ c κs. tt)
-    (λ c. let c1 = c .before in rw (odd-sag _ _, ← c1 .is-finite .ensures, c .if1 .taken))
     (λ c κs. tt)
-    (λ c. search needs)
-    (λ c κs. tt)
-    (λ c κs. tt)
-    (λ c κs. tt)
-    (λ c. search needs)
-    (λ c.
-    let c1 = c .before in let c2 = c1 .before in let c4 = c2 .before .before in let c6 = c4 .before .before in
-    let c9 = c6 .before .before .before in let c10 = c9 .before in
-    rw (
-      odd-sag _ _,
-      ← c10 .is-finite .ensures,
-      c9 .if1 .left,
-      ← c6 .base-root .ensures,
-      c4 .root .given .1,
-      ← c2 .base-sag-from .ensures,
-      ← c1 .power-sum .ensures,
-      ← c .power-sum2 .ensures,
-    ))
-    (λ c.
-    let c2 = c .before .before in let c5 = c2 .before .before .before in let c6 = c5 .before in
-    rw (odd-sag _ _, ← c6 .is-finite .ensures, c5 .if1 .left, ← c2 .base-root .ensures, c .enum-told .given .1)))
+    (λ c. let c1 = c .before in rw (← odd-sag _ _ _ _, ← c1 .odd-depth .ensures, ← c .sag-of .ensures)))

@@ -1,5 +1,5 @@
 -- Drafted (tools/draft): opens Newton.limitedPass; refused by Refusals.never-going; after enum-told Shared.kind-alone _
--- _ Types.noCoefficients _ numbers.Arithmetic.0f .1.
+-- _ Types.noPolynomial _ numbers.Arithmetic.0f .1.
 -- By the tests and the calls, in order. Assumes nothing.
 use borrow.Author.Needs.{needs}
 use borrow.Author.Tests.{le-leb, lt-leb}
@@ -7,7 +7,7 @@ use Rattle.numbers.specs.Arithmetic.{0f}
 use Rattle.surfaces.specs.Newton.{limitedPass}
 use Rattle.surfaces.proofs.Refusals.{never-going}
 use Rattle.surfaces.proofs.Shared.{kind-alone}
-use Rattle.surfaces.specs.Types.{noCoefficients}
+use Rattle.surfaces.specs.Types.{noPolynomial}
 use Rattle.surfaces.proofs.newton.limited_pass.Statement.{statement}
 use Rattle.surfaces.proofs.newton.limited_pass.Tie as tie
 
@@ -29,7 +29,7 @@ limited-pass-spec =
     rw (
       ← c5 .next-pass .ensures,
       c3 .enum-told .given .1,
-      kind-alone _ _ noCoefficients _ 0f .1,
+      kind-alone _ _ noPolynomial _ 0f .1,
       ← c2 .profile-limit .ensures,
       le-leb _ _ (c1 .if1 .taken),
       ← c .missed .ensures,
@@ -39,7 +39,7 @@ limited-pass-spec =
     rw (
       ← c4 .next-pass .ensures,
       c2 .enum-told .given .1,
-      kind-alone _ _ noCoefficients _ 0f .1,
+      kind-alone _ _ noPolynomial _ 0f .1,
       ← c1 .profile-limit .ensures,
       lt-leb _ _ (c .if1 .left),
     ))

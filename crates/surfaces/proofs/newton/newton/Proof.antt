@@ -9,9 +9,9 @@ use lib.Ieee.{Float}
 use Rattle.surfaces.specs.Refusal.{toldPassed}
 use Rattle.surfaces.specs.Newton.{going, newtonEnd}
 use Rattle.surfaces.specs.Parts.{shapeOf}
-use Rattle.surfaces.specs.declared.types.Coefficients.{Coefficients}
+use Rattle.surfaces.specs.declared.types.Polynomial.{Polynomial}
 use Rattle.surfaces.specs.declared.newton.Profile.{Profile}
-use Rattle.surfaces.specs.declared.newton.Profile.the-variants.{Even, Biconic, Toroid}
+use Rattle.surfaces.specs.declared.newton.Profile.the-variants.{Even, Odd, Biconic, Toroid}
 use Rattle.surfaces.specs.declared.newton.Passed.{Passed}
 use Rattle.surfaces.proofs.Passes.{onFrom, next, step, more, no-more}
 use Rattle.surfaces.proofs.Refusals.{never-going}
@@ -26,9 +26,10 @@ Inv-loop q a semi vertex ray t₀ made₀ t made =
 abbrev μ-loop : tie.MeasureT-loop
 μ-loop q a semi vertex ray t₀ made₀ t made = shapeOf q a semi .limit - made
 
-limits : (q : Profile) (a : Coefficients) (semi : Float) →
+limits : (q : Profile) (a : Polynomial) (semi : Float) →
     (0 < shapeOf q a semi .limit) × (shapeOf q a semi .limit ≤ 35)
 limits (Even c k) a semi = (omega arith, omega arith)
+limits (Odd c k) a semi = (omega arith, omega arith)
 limits (Biconic cx kx cy ky) a semi = (omega arith, omega arith)
 limits (Toroid rx cy ky) a semi = (omega arith, omega arith)
 

@@ -4,7 +4,7 @@ use mathlib.Core.Path.{_≡_, sym, ap, _∙_}
 use lib.Ieee.{Float, ofBits}
 use Rattle.numbers.specs.Arithmetic.{decimal, 0f, _+₆₄_, _*₆₄_}
 use Rattle.numbers.specs.Root.{root}
-use Rattle.surfaces.specs.Types.{distance, noCoefficients}
+use Rattle.surfaces.specs.Types.{distance, noPolynomial}
 use Rattle.surfaces.specs.Parts.{toldDepth, sagOf, shapeOf}
 use Rattle.surfaces.specs.Refusal.{toldPair}
 use Rattle.surfaces.specs.Newton.{Shape, passAt}
@@ -129,7 +129,7 @@ pass-at-spec =
       m .before .if2 .left,
       slopes-here m,
       n .m .given .1,
-      kind-alone _ _ noCoefficients _ 0f .0,
+      kind-alone _ _ noPolynomial _ 0f .0,
       ← c .before .checks-last .ensures,
       ← c .moved .ensures,
     ))

@@ -1,4 +1,5 @@
--- Drafted (tools/draft): opens Asphere.evenCrossingAnswer. By the tests and the calls, in order. Assumes nothing.
+-- Drafted (tools/draft): opens Asphere.evenCrossingAnswer; without no-coefficients in returns-2.
+-- By the tests and the calls, in order. Assumes nothing.
 use Rattle.surfaces.specs.Asphere.{evenCrossingAnswer}
 use Rattle.surfaces.proofs.asphere.EvenAsphere.intersect_ray.Statement.{statement}
 use Rattle.surfaces.proofs.asphere.EvenAsphere.intersect_ray.Tie as tie
@@ -15,12 +16,13 @@ intersect-ray-spec =
     rw (← c2 .is-good .ensures, ← c1 .can-be-met .ensures, c .if1 .taken))
     (λ c κs. tt)
     (λ c κs. tt)
+    (λ c κs. tt)
     (λ c.
-    let c1 = c .before in let c3 = c1 .before .before in let c4 = c3 .before in let c5 = c4 .before in
+    let c1 = c .before in let c4 = c1 .before .before .before in let c5 = c4 .before in let c6 = c5 .before in
     rw (
-      ← c5 .is-good .ensures,
-      ← c4 .can-be-met .ensures,
-      c3 .if1 .left,
+      ← c6 .is-good .ensures,
+      ← c5 .can-be-met .ensures,
+      c4 .if1 .left,
       ← c1 .newton .ensures,
       ← c .checked-crossing .ensures,
     )))

@@ -16,13 +16,16 @@ normal-spec =
     rw (← c3 .is-finite .ensures, ← c2 .is-finite2 .ensures, ← c1 .is-good .ensures, c .if1 .taken))
     (λ c κs. tt)
     (λ c κs. tt)
+    (λ c κs. tt)
     (λ c.
     let c1 = c .before in let c2 = c1 .before in let c3 = c2 .before in let c4 = c3 .before in let c5 = c4 .before in
+    let c6 = c5 .before in
     rw (
-      ← c5 .is-finite .ensures,
-      ← c4 .is-finite2 .ensures,
-      ← c3 .is-good .ensures,
-      c2 .if1 .left,
+      ← c6 .is-finite .ensures,
+      ← c5 .is-finite2 .ensures,
+      ← c4 .is-good .ensures,
+      c3 .if1 .left,
+      ← c2 .powers .ensures,
       ← c1 .raw-odd-normal .ensures,
       ← c .checked-direction .ensures,
     )))

@@ -15,12 +15,14 @@ sag-spec =
     rw (← c2 .is-finite .ensures, ← c1 .is-good .ensures, c .if1 .taken))
     (λ c κs. tt)
     (λ c κs. tt)
+    (λ c κs. tt)
     (λ c.
-    let c1 = c .before in let c2 = c1 .before in let c3 = c2 .before in let c4 = c3 .before in
+    let c1 = c .before in let c2 = c1 .before in let c3 = c2 .before in let c4 = c3 .before in let c5 = c4 .before in
     rw (
-      ← c4 .is-finite .ensures,
-      ← c3 .is-good .ensures,
-      c2 .if1 .left,
+      ← c5 .is-finite .ensures,
+      ← c4 .is-good .ensures,
+      c3 .if1 .left,
+      ← c2 .powers .ensures,
       ← c1 .raw-odd-sag .ensures,
       ← c .checked-sag .ensures,
     )))

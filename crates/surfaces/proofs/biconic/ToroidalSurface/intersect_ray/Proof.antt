@@ -1,4 +1,4 @@
--- Drafted (tools/draft): opens Biconic.toroidCrossingAnswer; without no-coefficients in returns-2.
+-- Drafted (tools/draft): opens Biconic.toroidCrossingAnswer; without no-polynomial in returns-2.
 -- By the tests and the calls, in order. Assumes nothing.
 use Rattle.surfaces.specs.Biconic.{toroidCrossingAnswer}
 use Rattle.surfaces.proofs.biconic.ToroidalSurface.intersect_ray.Statement.{statement}

@@ -2,8 +2,8 @@
 use lib.Ieee.{ofBits}
 use Rattle.numbers.specs.Arithmetic.{decimal}
 use Rattle.surfaces.specs.Parts.{oddBaseSlopeFrom}
-use Rattle.surfaces.proofs.asphere.odd_base_slope_from.Statement.{statement}
-use Rattle.surfaces.proofs.asphere.odd_base_slope_from.Tie as tie
+use Rattle.surfaces.proofs.sags.odd_base_slope_from.Statement.{statement}
+use Rattle.surfaces.proofs.sags.odd_base_slope_from.Tie as tie
 
 pub odd-base-slope-from-spec : {M : Type 1} → statement M
 unfolding oddBaseSlopeFrom decimal ofBits

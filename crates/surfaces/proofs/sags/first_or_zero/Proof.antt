@@ -5,8 +5,8 @@ use mathlib.Core.Path.{sym}
 use lib.Ieee.{ofBits}
 use Rattle.numbers.specs.Arithmetic.{decimal}
 use Rattle.surfaces.proofs.Terms.{first-there}
-use Rattle.surfaces.proofs.asphere.first_or_zero.Statement.{statement}
-use Rattle.surfaces.proofs.asphere.first_or_zero.Tie as tie
+use Rattle.surfaces.proofs.sags.first_or_zero.Statement.{statement}
+use Rattle.surfaces.proofs.sags.first_or_zero.Tie as tie
 
 returns-2 : tie.Need-returns-2
 returns-2 c =

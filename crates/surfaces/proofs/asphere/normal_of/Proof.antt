@@ -1,10 +1,10 @@
--- Drafted (tools/draft): opens Biconic.normalOf; refused by Refusals.never-done.
+-- Drafted (tools/draft): opens Asphere.normalOf; refused by Refusals.never-done.
 -- By the tests and the calls, in order. Assumes nothing.
 use borrow.Author.Needs.{needs}
-use Rattle.surfaces.specs.Biconic.{normalOf}
+use Rattle.surfaces.specs.Asphere.{normalOf}
 use Rattle.surfaces.proofs.Refusals.{never-done}
-use Rattle.surfaces.proofs.biconic.normal_of.Statement.{statement}
-use Rattle.surfaces.proofs.biconic.normal_of.Tie as tie
+use Rattle.surfaces.proofs.asphere.normal_of.Statement.{statement}
+use Rattle.surfaces.proofs.asphere.normal_of.Tie as tie
 
 pub normal-of-spec : {M : Type 1} → statement M
 unfolding normalOf

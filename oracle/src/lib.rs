@@ -1,5 +1,7 @@
-//! The Rust text itself, and what the programs over it share: lines of words, and SCOPE's numbers for
-//! refusals (T1).
+//! The Rust text itself, and what the programs over it share: lines of words, SCOPE's numbers for refusals (T1), and
+//! Newton's passes.
+
+pub mod newton;
 
 use std::io::{self, Read, Write};
 
@@ -57,4 +59,14 @@ pub fn told(refusal: OpticsError) -> (u8, Vec<f64>) {
         OpticsError::TotalInternalReflection => (8, vec![]),
         other => panic!("{other:?} has no number in SCOPE"),
     }
+}
+
+/// Stops unless both have the same number and values, bit by bit, both zeros being equal.
+pub fn check(ours: Result<Vec<f64>, OpticsError>, rust: Result<Vec<f64>, OpticsError>, what: &str) {
+    let words = |answer: Result<Vec<f64>, OpticsError>| {
+        let (number, values) = answer.map_or_else(told, |values| (1, values));
+        let without_sign: Vec<f64> = values.iter().map(|x| x + 0.0).collect();
+        format!("{number}{}", written(&without_sign))
+    };
+    assert_eq!(words(ours), words(rust), "{what}: here, and in the Rust text");
 }

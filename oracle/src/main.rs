@@ -1,13 +1,15 @@
 //! Answers questions from standard input, one a line, with the functions of the Rust text.
 //!
 //! Questions and answers are those of the program `answers`, and one more is known: `ray_new` takes an origin and a
-//! direction, and answers with the origin and the direction that `Ray::new` makes.
+//! direction, and answers with the origin and the direction that `Ray::new` makes. An odd asphere's intersection, which
+//! the Rust text has not, is that of `newton.rs`.
 
 mod operands;
 
 use operands::Operands;
 use oracle::conic::{ConicSurface, conic_normal, conic_sag, intersect_conic};
 use oracle::error::OpticsError;
+use oracle::newton::Newton;
 use oracle::snell::{reflect, snell_refract};
 use oracle::surface::asphere::{EvenAsphere, OddAsphere};
 use oracle::surface::biconic::{BiconicSurface, ToroidalSurface};
@@ -113,6 +115,9 @@ fn answer(line: &[u8]) -> Option<Answer> {
         }
         "odd_sag" => asked(&mut q, number, odd, |r, s| s.sag(r).and_then(one))?,
         "odd_normal" => asked(&mut q, place, odd, |(x, y), s| s.normal(x, y).map(vector))?,
+        "odd_intersect" => {
+            asked(&mut q, ray_and_vertex, odd, |(ray, z), s| Newton::of_odd(&s).intersection(&ray, z).map(hit))?
+        }
 
         "biconic_new" => {
             let s = q.biconic()?;

@@ -10,7 +10,7 @@ use oracle::{digits, number, written};
 use recipe::Surface;
 use trace::{State, WIDTH, cut, ray, unbroken};
 
-const MOST_BYTES: usize = 65_536;
+const MOST_BYTES: usize = 65_596;
 const MOST_ROOM: u64 = 8_192;
 
 struct Station {

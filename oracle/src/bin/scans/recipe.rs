@@ -1,10 +1,11 @@
 //! The recipe as SCOPE has it (R1 to R5): records of bytes, one for each surface.
 
 use oracle::conic::ConicSurface;
-use oracle::surface::asphere::EvenAsphere;
+use oracle::surface::asphere::{EvenAsphere, OddAsphere};
 use oracle::surface::biconic::{BiconicSurface, ToroidalSurface};
 
 const MOST_RECORDS: usize = 512;
+const LAST_END: usize = 65_536;
 const MOST_COEFFICIENTS: usize = 8;
 
 pub enum Kind {
@@ -12,6 +13,7 @@ pub enum Kind {
     Even(EvenAsphere),
     Biconic(BiconicSurface),
     Toroid(ToroidalSurface),
+    Odd(OddAsphere),
 }
 
 pub struct Surface {
@@ -30,12 +32,13 @@ pub fn surfaces(recipe: &[u8]) -> Result<Vec<Surface>, (u8, usize)> {
     while place < recipe.len() {
         let room = surfaces.len() < MOST_RECORDS;
         let (kind, numbers) = shape(&recipe[place..]).filter(|_| room).ok_or((10, place))?;
-        let surface = surface(place, kind, &numbers).ok_or((10, place))?;
+        let end = place + 4 + 8 * numbers.len();
+        let surface = surface(place, kind, &numbers).filter(|_| end <= LAST_END).ok_or((10, place))?;
         if let Some(refusal) = refusal(&surface, &numbers) {
             return Err((refusal, place));
         }
         surfaces.push(surface);
-        place += 4 + 8 * numbers.len();
+        place = end;
     }
     Ok(surfaces)
 }
@@ -64,6 +67,13 @@ fn surface(place: usize, kind: u16, numbers: &[f64]) -> Option<Surface> {
         }
         (3, &[cx, kx, cy, ky, semi_diameter_mm]) => Kind::Biconic(BiconicSurface { cx, kx, cy, ky, semi_diameter_mm }),
         (4, &[rx_mm, cy, ky, semi_diameter_mm]) => Kind::Toroid(ToroidalSurface { rx_mm, cy, ky, semi_diameter_mm }),
+        (5, &[curvature, conic_constant, semi_diameter_mm, ref coefficients @ ..])
+            if coefficients.len() == 2 * MOST_COEFFICIENTS =>
+        {
+            let (even, odd) = coefficients.split_at(MOST_COEFFICIENTS);
+            let (even_coefficients, odd_coefficients) = (even.to_vec(), odd.to_vec());
+            Kind::Odd(OddAsphere { curvature, conic_constant, even_coefficients, odd_coefficients, semi_diameter_mm })
+        }
         _ => return None,
     };
     Some(Surface { place, vertex_z, index_after, mirror, kind })
@@ -75,6 +85,7 @@ fn refusal(surface: &Surface, numbers: &[f64]) -> Option<u8> {
         Kind::Even(s) => (s.semi_diameter_mm, 2),
         Kind::Biconic(s) => (s.semi_diameter_mm, 2),
         Kind::Toroid(s) => (s.semi_diameter_mm, 2),
+        Kind::Odd(s) => (s.semi_diameter_mm, 2),
     };
     match () {
         _ if !numbers.iter().all(|x| x.is_finite()) => Some(2),

@@ -212,15 +212,33 @@ def base_root(c, k, r2):
     return 1.0 if abs(c) < FLAT else edge_root(1.0 - (1.0 + k) * c * c * r2)
 
 
-def even_sag(own, coefficients, x, y):
-    c, r = own["c"], distance(x, y)
-    refuse_if(not math.isfinite(r), 2)
-    r2 = r * r
-    s = base_root(c, own["k"], r2)
-    powers, power = 0.0, r2
+def power_sum(coefficients, power, r2):
+    """Coefficients times their powers of r, of which the first is given."""
+    powers = 0.0
     for a in coefficients:
         powers, power = powers + a * power, power * r2
-    return (0.0 if abs(c) < FLAT else c * r2 / (1.0 + s)) + powers
+    return powers
+
+
+def slope_sum(coefficients, exponent, power, r2):
+    """Their slopes; the first exponent is given, and the power below it."""
+    powers = 0.0
+    for i, a in enumerate(coefficients):
+        powers, power = powers + (2.0 * i + exponent) * a * power, power * r2
+    return powers
+
+
+def base_sag(own, r):
+    """Of an asphere without its coefficients."""
+    refuse_if(not math.isfinite(r), 2)
+    c, r2 = own["c"], r * r
+    s = base_root(c, own["k"], r2)
+    return 0.0 if abs(c) < FLAT else c * r2 / (1.0 + s)
+
+
+def even_sag(own, coefficients, x, y):
+    r = distance(x, y)
+    return base_sag(own, r) + power_sum(coefficients, r * r, r * r)
 
 
 def even_slope(own, coefficients, r):
@@ -229,16 +247,17 @@ def even_slope(own, coefficients, r):
     c, r2 = own["c"], r * r
     s = base_root(c, own["k"], r2)
     refuse_if(s <= FLAT, 4)
-    powers, power = 0.0, r
-    for i, a in enumerate(coefficients):
-        powers, power = powers + (2.0 * i + 2.0) * a * power, power * r2
-    return (0.0 if abs(c) < FLAT else c * r / s) + powers
+    return (0.0 if abs(c) < FLAT else c * r / s) + slope_sum(coefficients, 2.0, r, r2)
+
+
+def radial_slopes(slope, x, y, r, near):
+    """A slope along r, in x and y; and what it is near the axis."""
+    return (slope * (x / r), slope * (y / r)) if r > 1e-14 else near
 
 
 def even_slopes(own, coefficients, x, y):
     r = distance(x, y)
-    slope = even_slope(own, coefficients, r)
-    return (slope * (x / r), slope * (y / r)) if r > 1e-14 else (0.0, 0.0)
+    return radial_slopes(even_slope(own, coefficients, r), x, y, r, (0.0, 0.0))
 
 
 def even_normal(surface, point):
@@ -250,6 +269,31 @@ def even_normal(surface, point):
     dx, dy = slope * (x / r), slope * (y / r)
     refuse_if(not math.isfinite(length_of(dx, dy)), 4)
     return facing_of(dx, dy)
+
+
+def even_and_odd(coefficients):
+    half = len(coefficients) // 2
+    return coefficients[:half], coefficients[half:]
+
+
+def odd_sag(own, coefficients, x, y):
+    r, (even, odd) = distance(x, y), even_and_odd(coefficients)
+    return base_sag(own, r) + power_sum(even, r * r, r * r) + power_sum(odd, r, r * r)
+
+
+def odd_slope(own, even, odd, r):
+    """Along r."""
+    c, r2 = own["c"], r * r
+    base = 0.0 if abs(c) < FLAT else c * r / max(base_root(c, own["k"], r2), FLAT)
+    return base + slope_sum(even, 2.0, r, r2) + slope_sum(odd, 1.0, 1.0, r2)
+
+
+def odd_slopes(own, coefficients, x, y):
+    r, (even, odd) = distance(x, y), even_and_odd(coefficients)
+    if r < FLAT and abs(odd[0]) < 1e-14:
+        return 0.0, 0.0
+    slope = odd_slope(own, even, odd, r)
+    return radial_slopes(slope, x, y, r, (slope, 0.0))
 
 
 def length_of(dx, dy):
@@ -315,9 +359,15 @@ def normal_by_slopes(surface, point):
     return facing_of(*slopes(surface, *point[:2]))
 
 
-SAGS = {"conic": conic_sag, "even": even_sag, "biconic": biconic_sag, "toroid": toroid_sag}
-SLOPES = {"even": even_slopes, "biconic": biconic_slopes, "toroid": toroid_slopes}
-NORMALS = {"conic": conic_normal, "even": even_normal, "biconic": normal_by_slopes, "toroid": normal_by_slopes}
+SAGS = {"conic": conic_sag, "even": even_sag, "biconic": biconic_sag, "toroid": toroid_sag, "odd": odd_sag}
+SLOPES = {"even": even_slopes, "biconic": biconic_slopes, "toroid": toroid_slopes, "odd": odd_slopes}
+NORMALS = {
+    "conic": conic_normal,
+    "even": even_normal,
+    "biconic": normal_by_slopes,
+    "toroid": normal_by_slopes,
+    "odd": normal_by_slopes,
+}
 
 
 def onward(surface, beam, facing):

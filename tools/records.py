@@ -5,24 +5,36 @@ from itertools import accumulate
 from typing import List, NamedTuple, Optional, Tuple
 
 MOST_SURFACES = 512
+MOST_BYTES = 65536
 MIRROR = 256
 
 
 class Shape(NamedTuple):
-    """What a kind's record has: its number, the names of its numbers behind vertex and index, and how many coefficients
-    may follow; and the most steps that such a surface takes."""
+    """What a kind's record has: its number, the names of its numbers behind vertex and index, those of the coefficients
+    that may follow, and whether all of these always do; and the most steps that such a surface takes."""
 
     kind: int
     names: Tuple[str, ...]
-    coefficients: int
+    coefficients: Tuple[str, ...]
+    has_all: bool
     steps: int
 
+    def counts(self):
+        """How many numbers such a record may have."""
+        most = 2 + len(self.names) + len(self.coefficients)
+        return range(most if self.has_all else 2 + len(self.names), most + 1)
+
+
+# of r^2, r^4 and so on, and of r, r^3 and so on
+EVEN_TERMS = tuple(f"a{i}" for i in range(1, 9))
+ODD_TERMS = tuple(f"b{i}" for i in range(1, 9))
 
 SHAPES = {
-    "conic": Shape(1, ("c", "k", "semi"), 0, 1),
-    "even": Shape(2, ("c", "k", "semi"), 8, 25),
-    "biconic": Shape(3, ("cx", "kx", "cy", "ky", "semi"), 0, 35),
-    "toroid": Shape(4, ("rx", "cy", "ky", "semi"), 0, 35),
+    "conic": Shape(1, ("c", "k", "semi"), (), False, 1),
+    "even": Shape(2, ("c", "k", "semi"), EVEN_TERMS, False, 25),
+    "biconic": Shape(3, ("cx", "kx", "cy", "ky", "semi"), (), False, 35),
+    "toroid": Shape(4, ("rx", "cy", "ky", "semi"), (), False, 35),
+    "odd": Shape(5, ("c", "k", "semi"), (*EVEN_TERMS, *ODD_TERMS), True, 25),
 }
 RAY_NAMES = ("x", "y", "z", "dx", "dy", "dz", "index")
 
@@ -104,10 +116,10 @@ def parsed(data):
         ray, at = ray_at_start(data)
     except Malformed as wrong:
         return Prescription(None, [], wrong)
-    surfaces = []
+    surfaces, last = [], at + MOST_BYTES
     while at < len(data):
         try:
-            surface, at = surface_at(data, at, len(surfaces))
+            surface, at = surface_at(data, at, len(surfaces), last)
         except Malformed as wrong:
             return Prescription(ray, surfaces, Malformed(wrong.place, f"surface {len(surfaces)}: {wrong.reason}"))
         surfaces.append(surface)
@@ -125,8 +137,8 @@ def ray_at_start(data):
     return ray, end
 
 
-def surface_at(data, at, before):
-    """A surface, and where the next begins, if so many stand before it."""
+def surface_at(data, at, before, last):
+    """A surface, and where the next begins, if so many stand before it and it ends here at the last."""
     if before == MOST_SURFACES:
         raise Malformed(at, f"a recipe has at most {MOST_SURFACES}")
     number, numbers, end = record_at(data, at)
@@ -134,10 +146,10 @@ def surface_at(data, at, before):
     kind = next((kind for kind, shape in SHAPES.items() if shape.kind == own), None)
     if kind is None or mirror > 1:
         raise Malformed(at, f"there is no kind {number}")
-    shape = SHAPES[kind]
-    least = 2 + len(shape.names)
-    if not least <= len(numbers) <= least + shape.coefficients:
+    if len(numbers) not in SHAPES[kind].counts():
         raise Malformed(at, f"length {2 + 8 * len(numbers)} is not one of kind {number}, {kind}")
+    if end > last:
+        raise Malformed(at, f"a recipe has at most {MOST_BYTES} bytes, and the record ends {end - last} past them")
     return Surface(kind, numbers[0], numbers[1], numbers[2:], mirror == 1), end
 
 

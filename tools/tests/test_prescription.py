@@ -8,6 +8,10 @@ from prescription import BadText, read, written
 from records import Prescription, Surface, bytes_of, faults, file, file_places, parsed, record, slip
 
 PLANE = "conic vertex=0 index=1.5 c=0 k=0 semi=10"
+EVEN = "even vertex=0 index=1 c=0 k=0 semi=1"
+ODD = "odd vertex=0 index=1 c=0 k=0 semi=1"
+BICONIC = "biconic vertex=0 index=1 cx=0 kx=0 cy=0 ky=0 semi=1"
+TERMS = "a1, a2, a3, a4, a5, a6, a7, a8, b1, b2, b3, b4, b5, b6, b7, b8"
 RAY = "ray x=0 y=0 z=-5 dx=0 dy=0 dz=1 index=1"
 
 
@@ -53,6 +57,9 @@ class Text(trying.Refusing, unittest.TestCase):
         self.assertEqual(mirror, Surface("biconic", 1, 2, [3, 4, 5, 6, 7], True))
         toroid = surface("toroid vertex=1 index=2 rx=3 cy=4 ky=5 semi=6")
         self.assertEqual(toroid, Surface("toroid", 1, 2, [3, 4, 5, 6]))
+        odd = surface("odd b8=9 vertex=1 index=2 c=3 k=4 semi=5 a1=6 b1=8 a8=7")
+        self.assertEqual(odd, Surface("odd", 1, 2, [3, 4, 5, 6, *[0] * 6, 7, 8, *[0] * 6, 9]))
+        self.assertEqual(surface("mirror odd vertex=1 index=2 radius=inf k=4 semi=5").numbers, [0, 4, 5, *[0] * 16])
 
     def test_a_radius_is_rounded_once(self):
         self.assertEqual(surface("conic vertex=0 index=1 radius=-62.75 k=0 semi=1").numbers[0], -1 / 62.75)
@@ -67,7 +74,8 @@ class Text(trying.Refusing, unittest.TestCase):
         self.assertEqual(read("").prescription, Prescription(None, []))
 
     def test_refused_with_line_and_reason(self):
-        kinds = "conic, even, biconic, toroid"
+        kinds = "conic, even, biconic, toroid, odd"
+        odds = f"{RAY}\n" + f"{ODD}\n" * 380
         nine = " ".join(f"a{i}=0" for i in range(1, 10))
         for text, line, reason in (
             ("cone vertex=0", 1, f"'cone' is no kind: there are {kinds}, ray, and mirror before a kind"),
@@ -76,7 +84,8 @@ class Text(trying.Refusing, unittest.TestCase):
             (f"\n{PLANE} d=1", 2, "a surface of kind conic has no 'd': it has vertex, index, c, k, semi"),
             (f"{PLANE} k=1", 1, "k is given twice"),
             (f"{PLANE} radius=1", 1, "c and radius are the same number, and both are given"),
-            (f"{PLANE} a1=0", 1, "only an even asphere has coefficients"),
+            (f"{PLANE} a1=0", 1, "only even and odd aspheres have coefficients"),
+            (f"{PLANE} b1=0", 1, "a surface of kind conic has no 'b1': it has vertex, index, c, k, semi"),
             ("conic vertex=0 index=1 c=0 k=0", 1, "semi is missing: a surface of kind conic needs it"),
             ("conic vertex=0 index=1 k=0 semi=1", 1, "c or radius is missing"),
             ("conic vertex=0 index=1 c=1/3 k=0 semi=1", 1, "c: '1/3' is no number"),
@@ -85,18 +94,29 @@ class Text(trying.Refusing, unittest.TestCase):
             ("conic vertex=0 index=1 radius=nan:7FF8000000000000 k=0 semi=1", 1, "is no curvature"),
             ("conic vertex 0", 1, "'vertex' is not of the form name=number"),
             ("conic =0", 1, "'=0' is not of the form name=number"),
-            ("even vertex=0 index=1 c=0 k=0 semi=1 a1=0 a3=0", 1, "a3 is given without a2"),
-            ("even vertex=0 index=1 c=0 k=0 semi=1 a10=0", 1, "a10 is given without a1"),
-            ("even vertex=0 index=1 c=0 k=0 semi=1 a01=0", 1, "has no 'a01'"),
-            (f"even vertex=0 index=1 c=0 k=0 semi=1 {nine}", 1, "at most 8 coefficients"),
+            (f"{EVEN} a1=0 a3=0", 1, "a3 is given without a2"),
+            (f"{EVEN} a10=0", 1, "a10 is given without a1"),
+            (f"{EVEN} a01=0", 1, "has no 'a01'"),
+            (f"{EVEN} {nine}", 1, "at most 8 coefficients"),
+            (f"{EVEN} b1=0", 1, "a surface of kind even has no 'b1': it has vertex, index, c, k, semi, a1, a2, a3,"),
+            (f"{ODD} b9=0", 1, f"a surface of kind odd has no 'b9': it has vertex, index, c, k, semi, {TERMS}"),
+            (f"{ODD} a0=0", 1, "has no 'a0'"),
+            (f"{ODD} a9=0", 1, "has no 'a9'"),
+            (f"{ODD} b01=0", 1, "has no 'b01'"),
+            (f"{ODD} b2=0 b2=0", 1, "b2 is given twice"),
+            (f"{ODD} b2=", 1, "b2: '' is no number"),
+            (f"{ODD} radius=1", 1, "c and radius are the same number, and both are given"),
+            ("odd vertex=0 index=1 c=0 k=0 b1=1", 1, "semi is missing: a surface of kind odd needs it"),
             (f"{PLANE}\n{RAY}", 2, "the ray comes before the surfaces"),
             (f"{RAY}\n{RAY}", 2, "there is a ray already, in line 1"),
             ("ray x=0", 1, "y is missing: a ray needs it"),
             (f"{RAY} semi=1", 1, "a ray has no 'semi'"),
             (f"{PLANE}\n" * 513, 513, "at most 512 surfaces"),
+            (odds + f"{BICONIC}\n" * 3, 384, "at most 65536 bytes, and with this surface 65540"),
         ):
             self.assert_told(refusal(text), line, reason)
         self.assertIsNone(refusal(f"{RAY}\n" + f"{PLANE}\n" * 512))
+        self.assertIsNone(refusal(odds + f"{PLANE}\n" * 4))
 
 
 class Bytes(unittest.TestCase):
@@ -122,10 +142,23 @@ class Bytes(unittest.TestCase):
             ray = bytes_of(0, [0.0] * 7)[:4] + draw.getrandbits(448).to_bytes(56, "little")
             data = draw.choice([b"", ray])
             for _ in range(draw.randrange(5)):
-                kind, count = draw.choice([(1, 5), (2, 5), (2, 9), (2, 13), (3, 7), (4, 6)])
+                kind, count = draw.choice([(1, 5), (2, 5), (2, 9), (2, 13), (3, 7), (4, 6), (5, 21)])
                 head = struct.pack("<HH", 2 + 8 * count, kind + 256 * draw.randrange(2))
                 data += head + draw.getrandbits(64 * count).to_bytes(8 * count, "little")
             self.assert_goes_back(data)
+
+    def test_an_odd_asphere_goes_back(self):
+        """Coefficients that are 0 are left out, and those that are -0 are not."""
+        for terms, text in (
+            ([0.0] * 16, ""),
+            ([-0.0] * 16, "".join(f" {name}=-0" for name in TERMS.split(", "))),
+            ([0.0, -0.0, *[0.0] * 5, 1e-300, 0.25, *[0.0] * 6, -5e-324], " a2=-0 a8=1e-300 b1=0.25 b8=-5e-324"),
+        ):
+            for kind, mirror in ((5, ""), (261, "mirror ")):
+                data = bytes_of(kind, [0.0, 1.0, 0.0, 0.0, 1.0, *terms])
+                self.assertEqual(written(parsed(data)), f"{mirror}{ODD}{text}\n")
+                self.assertEqual(len(data), 172)
+                self.assert_goes_back(data)
 
     def test_bytes_that_are_no_recipe(self):
         plane, ray = record("conic", 0.0, 1.5, [0.0, 0.0, 10.0]), bytes_of(0, [0.0] * 7)
@@ -135,7 +168,10 @@ class Bytes(unittest.TestCase):
             (ray + plane + b"\0", 104, "cut short"),
             (ray + ray, 60, "there is no kind 0"),
             (bytes_of(0, [0.0] * 6), 0, "a ray's record has 58 bytes after its length, and not 50"),
-            (bytes_of(5, [0.0] * 5), 0, "there is no kind 5"),
+            (bytes_of(6, [0.0] * 5), 0, "there is no kind 6"),
+            (bytes_of(5, [0.0] * 20), 0, "length 162 is not one of kind 5, odd"),
+            (bytes_of(5, [0.0] * 22), 0, "length 178 is not one of kind 5, odd"),
+            (bytes_of(261, [0.0] * 5), 0, "length 42 is not one of kind 261, odd"),
             (bytes_of(513, [0.0] * 5), 0, "there is no kind 513"),
             (bytes_of(256, [0.0] * 7), 0, "there is no kind 256"),
             (bytes_of(1, [0.0] * 6), 0, "length 50 is not one of kind 1, conic"),
@@ -147,6 +183,21 @@ class Bytes(unittest.TestCase):
             self.assertEqual(wrong.place, place)
             self.assertIn(reason, wrong.reason)
         self.assertEqual((len(parsed(plane * 512).surfaces), parsed(plane * 512).malformed), (512, None))
+
+    def test_the_longest_recipe(self):
+        """A record that ends past it is malformed, whatever its numbers are; the ray before it does not count."""
+        odds = bytes_of(5, [0.0, 1.0, *[0.0] * 19]) * 380
+        biconic, lost = (bytes_of(3, [x, 1.0, *[0.0] * 5]) for x in (0.0, float("nan")))
+        for ray in (b"", bytes_of(0, [0.0] * 6 + [1.0])):
+            longest = parsed(ray + odds + record("conic", 0.0, 1.0, [0.0] * 3) * 4)
+            self.assertEqual((len(longest.surfaces), faults(longest)), (384, []))
+            for last, said in ((biconic, "ends 4 past them"), (lost, "ends 4 past them"), (biconic[:-1], "cut short")):
+                long = parsed(ray + odds + biconic * 2 + last)
+                self.assertEqual(long.malformed.place, len(ray) + 65480)
+                self.assertEqual([fault[:2] for fault in faults(long)], [(382, 10)])
+                self.assertIn(said, long.malformed.reason)
+            wrong_kind = parsed(ray + odds + biconic * 2 + bytes_of(9, [0.0] * 7))
+            self.assertIn("there is no kind 9", wrong_kind.malformed.reason)
 
     def test_faults_in_the_order_of_the_checks(self):
         bad = "\n".join((

@@ -16,16 +16,17 @@ BALL = surface("conic vertex=0 index=1 c=1 k=0 semi=3")
 EVEN = surface("even vertex=0 index=1 c=0 k=0 semi=5 a1=0.125 a2=1")
 BICONIC = surface("biconic vertex=0 index=1 cx=0.125 kx=-1 cy=0.25 ky=-1 semi=5")
 TOROID = surface("toroid vertex=0 index=1 rx=5 cy=0 ky=0 semi=9")
+ODD = surface("odd vertex=2 index=1 c=0 k=0 semi=4 a1=0.125 b1=0.5 b2=1")
 TURNED = surface("toroid vertex=0 index=1 rx=-5 cy=0 ky=0 semi=9")
 
 
 class Sags(unittest.TestCase):
     def test_known_sags(self):
-        of_revolution = [(CONIC, 4, 0, 1), (BALL, 0, 1, 1), (EVEN, 0, 2, 16.5)]
+        of_revolution = [(CONIC, 4, 0, 1), (BALL, 0, 1, 1), (EVEN, 0, 2, 16.5), (ODD, 0, 2, 9.5)]
         others = [(BICONIC, 4, 0, 1), (BICONIC, 0, 4, 2), (TOROID, 3, 0, 1), (TURNED, 3, 0, -1), (TOROID, 0, 7, 0)]
         for one, x, y, z in [*of_revolution, *others]:
             self.assertEqual(sag(one, x, y), z)
-        self.assertEqual({one.kind for one in (CONIC, EVEN, BICONIC, TOROID)}, set(SHAPES))
+        self.assertEqual({one.kind for one in (CONIC, EVEN, BICONIC, TOROID, ODD)}, set(SHAPES))
 
     def test_where_there_is_none(self):
         for one, x, y in ((BALL, 1.01, 0), (TOROID, 5.01, 0), (EVEN, 1e200, 0), (CONIC, math.inf, 0)):
@@ -38,6 +39,10 @@ class Sags(unittest.TestCase):
         self.assertEqual(reach(TOROID, 1), 9)
         points = profile(CONIC, 0)
         self.assertEqual((points[0], points[len(points) // 2]), ((11.5625, -5), (10, 0)))
+
+    def test_a_cone_has_its_tip(self):
+        points = profile(surface("odd vertex=2 index=1 c=0 k=0 semi=4 b1=0.5"), 1)
+        self.assertEqual([points[0], points[len(points) // 2], points[-1]], [(4, -4), (2, 0), (4, 4)])
 
     def test_where_surfaces_cross(self):
         lines = (f"conic vertex={z} index=1 radius={r} k=0 semi=4" for z, r in ((0, 5), (1, -5), (9, -5)))

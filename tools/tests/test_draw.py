@@ -80,6 +80,16 @@ class Draw(unittest.TestCase):
         surface = max(points[0][1] - points[-1][1] for points in lines(root, "#1f2937") if len(points) > 6)
         self.assertAlmostEqual(surface / bar, 2 * 12.7 / 20, 2)
 
+    def test_a_cone_has_its_tip(self):
+        """It goes straight from the rim to the vertex and back."""
+        root = drawn("odd vertex=0 index=1 c=0 k=0 semi=4 b1=0.5\n")
+        sections = [points for points in lines(root, "#1f2937") if len(points) > 6]
+        self.assertEqual(len(sections), 2)
+        for points in sections:
+            (rim, bottom), (tip, middle), (last, top) = points[0], points[len(points) // 2], points[-1]
+            self.assertEqual((last, (bottom + top) / 2), (rim, middle))
+            self.assertAlmostEqual((rim - tip) / (middle - top), 0.5, 2)
+
     def test_lost(self):
         root = sample("lost")
         self.assertEqual(len(lines(root, BEAM, DASHES)), 2)

@@ -5,7 +5,7 @@ import unittest
 from trying import LISTINGS, NAMES, SAMPLES, ZERO, Refusing, ran, refused_at_first
 from numerals import pattern
 from prescription import read
-from records import file
+from records import file, record
 from table import ENDS, MEANINGS, WHY
 
 VIGNETTED = refused_at_first(7, 12.0, 10.0)
@@ -53,6 +53,12 @@ class Explain(Refusing, unittest.TestCase):
     def test_exact_numbers(self):
         self.assertIn("path 123.82218832868621 mm", told((LISTINGS / "doublet").read_text(), "--exact"))
 
+    def test_cover(self):
+        text = ran("explain", LISTINGS / "cover", "--recipe", SAMPLES / "cover").out.decode()
+        hit = "hit at x 0.4, y -0.389379596, z 0.0649842422 mm, 1.10935859 mm after the start, on its front face"
+        self.assertTrue(text.startswith(f"Surface 0 (odd): {hit}; 4 steps.\n"))
+        self.assertTrue(text.endswith(f"\nDone: all 5 surfaces are hit; 10 steps, path 3.65378645 mm.\n\n{ALL_FIT}"))
+
     def test_lost(self):
         text = ran("explain", LISTINGS / "lost", "--recipe", SAMPLES / "lost.txt").out.decode()
         why = "no point of the surface was found ahead of the beam"
@@ -70,6 +76,7 @@ class Explain(Refusing, unittest.TestCase):
             ("doublet", "index=1.6727", "index=1.6726", "2: surface 1: new direction x is"),
             ("phone", "a3=0.022", "a3=0.0221", "2: surface 1: t is"),
             ("mirrors", "kx=0", "kx=0.001", "4: surface 3: t is"),
+            ("cover", "b5=-5e-5", "b5=-6e-5", "2: surface 1: t is"),
             ("toroid", "semi=25", "semi=5", "3: surface 2: the listing has a hit, and lens and ray a refusal with"),
             ("lost", "vertex=-6.5", "vertex=6.5", "3: surface 2: the listing has a refusal with 6 (missed), and lens"),
         ):
@@ -127,6 +134,7 @@ class Explain(Refusing, unittest.TestCase):
         negative = PLANE.replace("semi=", "semi=-")
         texts = (RAY + PLANE, RAY + DARK + PLANE, PLANE + PLANE)
         cut, dark, rayless = (file(read(text).prescription)[:-1] for text in texts)
+        long = file(read(RAY).prescription) + record("odd", 0, 1, [0] * 19) * 380 + record("biconic", 0, 1, [0] * 5) * 3
         for listing, recipe, said in (
             ("refused 3 60\n", RAY + negative, "Surface 0 (conic): the semi-diameter is negative.\n"),
             ("refused 4 0\n", RAY.replace("index=1", "index=-1"), "The ray: the index is not above 0.\n"),
@@ -135,6 +143,7 @@ class Explain(Refusing, unittest.TestCase):
             ("refused 4 60\n", dark, "Surface 0 (conic): the index is not above 0.\n"),
             ("refused 10 0\n", b"\x3a\0\0\0", "Cut short: 4 of the record's 60 bytes.\n"),
             ("refused 10 0\n", rayless, "The recipe has no ray.\n"),
+            ("refused 10 65540\n", long, "Surface 382: a recipe has at most 65536 bytes"),
         ):
             text = told(listing, "--recipe", self.recipe(recipe))
             self.assertIn(said, text)

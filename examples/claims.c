@@ -16,7 +16,10 @@
 #include <xmmintrin.h>
 #endif
 
-enum { ROOM = PILINGRUE_MOST_ROOM, CONIC_BYTES = 44, LONGEST_RECORD = 108, COEFFICIENTS = 8 };
+enum { ROOM = PILINGRUE_MOST_ROOM, CONIC_BYTES = 44, LONGEST_RECORD = 172 };
+
+/* How many numbers an odd asphere's record has, and where in it even and odd coefficients begin. */
+enum { ODD_ASPHERE = 21, EVEN_TERMS = 5, ODD_TERMS = 13 };
 
 /* The doublet has four conics. */
 enum { SURFACES = 4, NEEDED = SURFACES * PILINGRUE_RECORD_NUMBERS, LAST = (SURFACES - 1) * CONIC_BYTES };
@@ -102,11 +105,16 @@ static const recipe *doublet_with_bad_kind(void) {
     return &changed;
 }
 
-static const recipe *many(size_t records, uint16_t kind, size_t count) {
-    static const double PLANE[5 + COEFFICIENTS] = {0, 1, 0, 0, 1};
-    changed.size = 0;
-    for (size_t i = 0; i < records; i++) append(&changed, kind, count, PLANE);
+/* Behind what there is already. A start takes these numbers in records of all kinds. */
+static const recipe *and_many(size_t records, uint16_t kind, size_t count) {
+    static const double GOOD[ODD_ASPHERE] = {0, 1, 0, 0, 1};
+    for (size_t i = 0; i < records; i++) append(&changed, kind, count, GOOD);
     return &changed;
+}
+
+static const recipe *many(size_t records, uint16_t kind, size_t count) {
+    changed.size = 0;
+    return and_many(records, kind, count);
 }
 
 static const double *beam_with(size_t number, double value) {
@@ -284,6 +292,32 @@ static void coefficient_multiplies_an_even_power(void) {
           "coefficient 8 multiplies r^16");
 }
 
+/* Whether this coefficient alone makes an odd asphere so deep at x. */
+static int term_is(size_t place, double coefficient, double x, double z) {
+    double numbers[ODD_ASPHERE] = {0, 1, 0, 0, 10};
+    numbers[place] = coefficient;
+    return meets(PILINGRUE_KIND_ODD_ASPHERE, ODD_ASPHERE, numbers, x, 0, z);
+}
+
+static void odd_asphere_has_both_sorts_of_powers(void) {
+    claim(term_is(EVEN_TERMS, 1.0 / 8, 4, 2), "even coefficient 1 of an odd asphere multiplies r^2");
+    claim(term_is(ODD_TERMS - 1, 1.0 / 65536, 2, 1), "even coefficient 8 of an odd asphere multiplies r^16");
+    claim(term_is(ODD_TERMS, 1.0 / 4, 4, 1), "odd coefficient 1 multiplies r");
+    claim(term_is(ODD_ASPHERE - 1, 1.0 / 32768, 2, 1), "odd coefficient 8 multiplies r^15");
+}
+
+/* The search goes to and fro between r 0 and r 1. */
+static void odd_asphere_has_its_limit(void) {
+    static const double TO_AND_FRO[ODD_ASPHERE] = {0, 1, 0, 0, 10, [ODD_TERMS] = 3, -1};
+    static const double ASLANT[BEAM] = {0, 0, 2, 1, 0, 1, 1};
+    changed.size = 0;
+    append(&changed, PILINGRUE_KIND_ODD_ASPHERE, ODD_ASPHERE, TO_AND_FRO);
+    claim(accepted(begin(pilingrue_whole, &changed, ASLANT, ROOM)) &&
+              live.counts[PILINGRUE_COUNTS_OUTCOME] == PILINGRUE_MISSED &&
+              live.buffer[PILINGRUE_RECORD_STEPS] == PILINGRUE_STEPS_ODD_ASPHERE,
+          "an odd asphere takes at most PILINGRUE_STEPS_ODD_ASPHERE steps");
+}
+
 static void lens_file_begins_with_the_ray(void) {
     recipe *r = &changed;
     r->size = BEAM_BYTES + doublet.size;
@@ -303,10 +337,18 @@ static void most_are_the_most(void) {
     conics = many(records + 1, PILINGRUE_KIND_CONIC, 5);
     claim(refused(begin(pilingrue_start, conics, loaded.beam, ROOM), PILINGRUE_MALFORMED, records * CONIC_BYTES),
           "one record more is refused with 10 at its place");
-    const recipe *aspheres = many(records, PILINGRUE_KIND_EVEN_ASPHERE, 5 + COEFFICIENTS);
-    claim(aspheres->size == PILINGRUE_MOST_RECIPE_BYTES &&
-              accepted(begin(pilingrue_start, aspheres, loaded.beam, ROOM)),
-          "PILINGRUE_MOST_RECIPE_BYTES is the length of 512 even aspheres with 8 coefficients each");
+}
+
+static void longest_recipe_is_the_longest(void) {
+    many(380, PILINGRUE_KIND_ODD_ASPHERE, ODD_ASPHERE);
+    const recipe *longest = and_many(4, PILINGRUE_KIND_CONIC, 5);
+    claim(longest->size == PILINGRUE_MOST_RECIPE_BYTES && accepted(begin(pilingrue_start, longest, loaded.beam, ROOM)),
+          "380 odd aspheres and 4 conics have PILINGRUE_MOST_RECIPE_BYTES bytes and are accepted");
+    many(380, PILINGRUE_KIND_ODD_ASPHERE, ODD_ASPHERE);
+    const recipe *longer = and_many(3, PILINGRUE_KIND_BICONIC, 7);
+    claim(longer->size == PILINGRUE_MOST_RECIPE_BYTES + 4 &&
+              refused(begin(pilingrue_start, longer, loaded.beam, ROOM), PILINGRUE_MALFORMED, longer->size - 60),
+          "a record that ends 4 bytes past them is refused with 10 at its place");
 }
 
 static void allowance_is_narrowed(void) {
@@ -371,8 +413,11 @@ static void hold_all(void) {
     done_stands_at_the_end();
     numbers_are_curvatures_but_for_rx();
     coefficient_multiplies_an_even_power();
+    odd_asphere_has_both_sorts_of_powers();
+    odd_asphere_has_its_limit();
     lens_file_begins_with_the_ray();
     most_are_the_most();
+    longest_recipe_is_the_longest();
     allowance_is_narrowed();
 #if defined(__x86_64__)
     unmasked_exceptions_trap();

@@ -114,11 +114,14 @@ typedef struct pilingrue_verdict {
      2  even asphere    c, k, semi-diameter, 0 to 8 more     42 + 8 for each coefficient
      3  biconic         cx, kx, cy, ky, semi-diameter        58
      4  toroid          rx, cy, ky, semi-diameter            50
+     5  odd asphere     c, k, semi-diameter, 16 more         170
 
    c, cx and cy are curvatures in 1/mm, 0 for a plane; only rx, of a toroid's circle, is a radius, in mm. k, kx and ky
-   are conic constants. Coefficient i of an even asphere, from 1, multiplies r^(2i). A cylinder is a biconic with cx or
-   cy 0, and no toroid with rx 0. Kind + 256 is the same surface as a mirror: its index is checked and not used. An
-   empty recipe is done at once, and a record behind PILINGRUE_MOST_RECORDS others is refused with 10 at its place.
+   are conic constants. Coefficient i of an even asphere, from 1, multiplies r^(2i). An odd asphere has 8 of these and
+   then 8 odd ones, of which the i-th multiplies r^(2i - 1); those that are not wanted are 0. A cylinder is a biconic
+   with cx or cy 0, and no toroid with rx 0. Kind + 256 is the same surface as a mirror: its index is checked and not
+   used. An empty recipe is done at once. A record behind PILINGRUE_MOST_RECORDS others is refused with 10 at its place,
+   and so is one that ends past byte PILINGRUE_MOST_RECIPE_BYTES of the recipe.
 
    The files in samples/, and what tools/recipe makes of a text with a ray, are a program's: they begin with 60 bytes
    of the ray, which no call here takes. The recipe is what stands behind. */
@@ -126,9 +129,10 @@ typedef struct pilingrue_verdict {
 #define PILINGRUE_KIND_EVEN_ASPHERE 2
 #define PILINGRUE_KIND_BICONIC 3
 #define PILINGRUE_KIND_TOROID 4
+#define PILINGRUE_KIND_ODD_ASPHERE 5
 #define PILINGRUE_KIND_MIRROR 256
 #define PILINGRUE_MOST_RECORDS 512
-#define PILINGRUE_MOST_RECIPE_BYTES 55296 /* of 512 even aspheres with 8 coefficients each */
+#define PILINGRUE_MOST_RECIPE_BYTES 65536 /* of the longest recipe: for example 380 odd aspheres and 4 conics */
 #define PILINGRUE_MOST_ROOM 6656          /* numbers of the largest buffer, for 512 records */
 
 /* A step is a whole conic, or one pass of the search on another kind. A surface takes at most so many; so the sum
@@ -137,6 +141,7 @@ typedef struct pilingrue_verdict {
 #define PILINGRUE_STEPS_EVEN_ASPHERE 25
 #define PILINGRUE_STEPS_BICONIC 35
 #define PILINGRUE_STEPS_TOROID 35
+#define PILINGRUE_STEPS_ODD_ASPHERE 25
 
 /* The version of the archive. */
 uint64_t pilingrue_version(void);
@@ -149,11 +154,11 @@ uint64_t pilingrue_version(void);
    counts     written, whatever is answered
    numbers    written, whatever is answered
 
-   Checked in this order: each record by itself, its shape (10), that its numbers are finite (2), its semi-diameter (3
-   for a conic, 2 for the others), its index (4); then the beam, that its numbers are finite (2) and its index is
-   above 0 (4); then the room (11). After a refusal the outcome is its number, and all else in both arrays is 0. To
-   continue that is refused as well: with the same number and place where recipe or room were refused, with 12 where
-   the beam was (11 if the room is too short as well). */
+   Checked in this order: each record by itself, its shape and where it ends (10), that its numbers are finite (2), its
+   semi-diameter (3 for a conic, 2 for the others), its index (4); then the beam, that its numbers are finite (2) and
+   its index is above 0 (4); then the room (11). After a refusal the outcome is its number, and all else in both arrays
+   is 0. To continue that is refused as well: with the same number and place where recipe or room were refused, with 12
+   where the beam was (11 if the room is too short as well). */
 pilingrue_verdict pilingrue_start(const uint8_t *recipe, size_t recipe_bytes, double ox, double oy, double oz,
                                   double dx, double dy, double dz, double index, double *buffer, size_t room,
                                   uint64_t counts[PILINGRUE_COUNTS], double numbers[PILINGRUE_NUMBERS]);

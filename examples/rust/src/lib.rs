@@ -52,15 +52,17 @@ pub const KIND_CONIC: u16 = 1;
 pub const KIND_EVEN_ASPHERE: u16 = 2;
 pub const KIND_BICONIC: u16 = 3;
 pub const KIND_TOROID: u16 = 4;
+pub const KIND_ODD_ASPHERE: u16 = 5;
 pub const KIND_MIRROR: u16 = 256;
 pub const MOST_RECORDS: usize = 512;
-pub const MOST_RECIPE_BYTES: usize = 55296;
+pub const MOST_RECIPE_BYTES: usize = 65536;
 pub const MOST_ROOM: usize = 6656;
 
 pub const STEPS_CONIC: u16 = 1;
 pub const STEPS_EVEN_ASPHERE: u16 = 25;
 pub const STEPS_BICONIC: u16 = 35;
 pub const STEPS_TOROID: u16 = 35;
+pub const STEPS_ODD_ASPHERE: u16 = 25;
 
 /// A beam: where it comes from, where it goes, and the refractive index that it is in.
 #[derive(Clone, Copy, Debug)]

@@ -13,7 +13,6 @@ LEG = "crates/trace/src/leg.rt"
 RUN = "crates/trace/src/run.rt"
 STATE = "crates/trace/src/state.rt"
 RECORD = "crates/recipe/src/record.rt"
-TYPES = "crates/surfaces/src/types.rt"
 NEWTON = "crates/surfaces/src/newton.rt"
 REFUSAL = "crates/surfaces/src/refusal.rt"
 WRAPPER = "examples/rust/src/lib.rs"
@@ -32,7 +31,7 @@ CHANGES = {
     "another kind": (HEADER, "KIND_TOROID 4", "KIND_TOROID 5", "PILINGRUE_KIND_TOROID is 5"),
     "more records": (HEADER, "MOST_RECORDS 512", "MOST_RECORDS 513", "PILINGRUE_MOST_RECORDS is 513"),
     "a shorter buffer": (HEADER, "MOST_ROOM 6656", "MOST_ROOM 6655", "PILINGRUE_MOST_ROOM is 6655"),
-    "a longer recipe": (HEADER, "BYTES 55296", "BYTES 55297", "PILINGRUE_MOST_RECIPE_BYTES is 55297"),
+    "a longer recipe": (HEADER, "BYTES 65536", "BYTES 65537", "PILINGRUE_MOST_RECIPE_BYTES is 65537"),
     "one constant more": (HEADER, "COUNTS 5\n", "COUNTS 5\n#define PILINGRUE_MORE 1\n", "PILINGRUE_MORE is in"),
     "one constant less": (HEADER, "#define PILINGRUE_MALFORMED 10", "", "PILINGRUE_MALFORMED is not"),
     "a wider allowance": (HEADER, "uint16_t allowed", "uint32_t allowed", "uint32_t allowed"),
@@ -88,13 +87,18 @@ CHANGES = {
     "a value of another form": (RUN, "usize = 512", "usize = 1 << 9", "run.rt: a value that cannot be read"),
     "a name of two constants": (RUN, "// How many records", "pub const HIT: u8 = 1;\n//", "HIT is a constant of"),
     "another kind in the crate": (RECORD, "MIRROR: usize = 256", "MIRROR: usize = 512", "PILINGRUE_KIND_MIRROR is 256"),
-    "a longer record in the crate": (
+    "a longer recipe in the crate": (
         RECORD,
-        "LENGTH_EVEN_ASPHERE: usize = 42",
-        "LENGTH_EVEN_ASPHERE: usize = 50",
-        "PILINGRUE_MOST_RECIPE_BYTES is 55296",
+        "MOST_RECIPE_BYTES: usize = 65536",
+        "MOST_RECIPE_BYTES: usize = 65540",
+        "PILINGRUE_MOST_RECIPE_BYTES is 65536",
     ),
-    "more coefficients": (TYPES, "usize = 8", "usize = 9", "PILINGRUE_MOST_RECIPE_BYTES is 55296"),
+    "a wider room in the crate": (
+        LEG,
+        "usize = RECORD_STEPS + 1",
+        "usize = RECORD_STEPS + 3",
+        "PILINGRUE_MOST_ROOM is 6656",
+    ),
     "another limit in the crate": (NEWTON, "TOROID: u16 = 35", "TOROID: u16 = 36", "PILINGRUE_STEPS_TOROID is 35"),
     "another constant of the wrapper": (WRAPPER, "TOROID: u16 = 35", "TOROID: u16 = 25", "STEPS_TOROID is 35"),
     "another parameter of the wrapper": (RAW, "allowed: u16,\n    ) ->", "allowed: u32,\n    ) ->", "u32 allowed"),

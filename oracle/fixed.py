@@ -11,6 +11,10 @@ STEP = 2.0**-52
 VERTEX_FROM_THE_FRONT = [0.0, 0.0, 0.0, *DOWN, 1.0]
 # a ray whose first move is small, and leads far aside
 FLAT_AND_FAST = [0.0, 0.0, 2.0**-30, 2.0**50, 0.0, 2.0**20]
+# and one that a slope of 2^-46 along x is parallel to
+STEEPLY_ASIDE = [0.0, 0.0, 2.0**-30, 2.0**66, 0.0, 2.0**20]
+# a ray but for its dz, above a place where a bowl's slope is 1
+ABOVE_A_BOWL = [1.0, 0.0, 2.0, 2.0**20, 0.0]
 # a ray, and the vertex, c and k of a surface that it meets at an infinite z
 FAR_OUT = [2.0**510, 0.0, LARGEST, 0.0, 0.0, 2.0**1020, LARGEST, 2.0**-40, -1.0]
 
@@ -138,6 +142,35 @@ WORKED = [
     ("biconic_normal", [1.0, 0.0, 1e308, -1.0, 0.0, 0.0, 9.0], [9]),
     ("biconic_intersect", [*FAR_OUT, 0.0, 0.0, 2.0**511], [9]),
     ("toroid_sag", [0.0, 0.0, 1e200, 0.0, 0.0, 10.0], [9]),
+    # an odd asphere's intersection: both exits ask for r
+    ("odd_intersect", [4.0, 0.0, -1.0, *UP, 0.0, 0.0, 0.0, 5.0, 0, 1 / 4], [1, 2.0, 4.0, 0.0, 1.0]),
+    ("odd_intersect", [4.0, 0.0, -1.0, *UP, 0.0, 0.0, 0.0, 3.0, 0, 1 / 4], [7, 4.0, 3.0]),
+    ("odd_intersect", [4.0, 0.0, -1.0, *UP, 0.0, 0.0, 0.0, 2.0, 0, 1 / 4], [6]),
+    ("odd_intersect", [*FLAT_AND_FAST, 0.0, 0.0, 0.0, 0.5, 8, *[0.0] * 16], [7, 1.0, 0.5]),
+    ("odd_intersect", [0.0, 0.0, 0.0, *DOWN, 0.0, 0.0, 0.0, 1.0, 0], [1, -0.0, 0.0, 0.0, 0.0]),
+    # on the axis slopes of 0 for a coefficient below 1e-14; beside it the whole slope is along x, whatever y is
+    ("odd_intersect", [*STEEPLY_ASIDE, 0.0, 0.0, 0.0, 2.0**60, 0, 2.0**-47], [1, -(2.0**-50), -(2.0**16), 0.0, 0.0]),
+    ("odd_intersect", [*STEEPLY_ASIDE, 0.0, 0.0, 0.0, 2.0**60, 0, 2.0**-46], [4]),
+    (
+        "odd_intersect",
+        [0.0, 2.0**-49, 2.0**-30, 2.0**20, 0.0, 2.0**20, 0.0, 0.0, 0.0, 5.0, 0, 1 / 2],
+        [1, 2.0**-69 - 2.0**-49, 2.0**-49 - 2.0**-29, 2.0**-49, 2.0**-49 - 2.0**-30],
+    ),
+    # where the base turns back its slope is large and not refused; 0 times an overflowed power is NaN
+    ("odd_intersect", [1.0, 0.0, -5.0, *UP, 0.0, 1.0, 0.0, 10.0, 0], [1, 6.0, 1.0, 0.0, 1.0]),
+    ("odd_intersect", [1.0, 0.0, 2.0, 0.01, 0.0, 1.0, 0.0, 1.0, 0.0, 10.0, 0], [1]),
+    ("odd_intersect", [2.0**66, 0.0, -1.0, *UP, 0.0, 0.0, 0.0, 2.0**70, 7, *[0.0] * 15], [1, 1.0, 2.0**66, 0.0, 0.0]),
+    ("odd_intersect", [2.0**66, 0.0, -1.0, *UP, 0.0, 0.0, 0.0, 2.0**70, 8, *[0.0] * 16], [6]),
+    # base, even and odd terms of the slope are summed in this order: to 1 and to 1 + 2^-51
+    ("odd_intersect", [*ABOVE_A_BOWL, 2.0**20, 0.0, 1.0, -1.0, 10.0, 1, STEP / 4, STEP / 2], [4]),
+    ("odd_intersect", [*ABOVE_A_BOWL, 2.0**20 + 2.0**-31, 0.0, 1.0, -1.0, 10.0, 1, STEP / 2, STEP / 2], [4]),
+    # what it refuses before and after
+    ("odd_intersect", [0.0, 0.0, -5.0, *UP, 0.0, 0.0, 0.0, 1.0, 9, *[0.0] * 9], [2]),
+    ("odd_intersect", [0.0, 0.0, -5.0, *UP, 0.0, 0.0, 0.0, 1.0, 0, *[0.0] * 9], [2]),
+    ("odd_intersect", [0.0, 0.0, -5.0, *UP, 0.0, 0.0, 0.0, -1.0, 0], [2]),
+    ("odd_intersect", [0.0, 0.0, -5.0, 1.0, 0.0, 0.0, 0.0, 0.0, 0.0, -1.0, 0], [2]),
+    ("odd_intersect", [0.0, 0.0, -1e308, *UP, 1e308, 0.0, 0.0, 10.0, 0], [6]),
+    ("odd_intersect", [*FAR_OUT, 2.0**511, 0], [9]),
 ]
 
 FOUR = pattern(4.0)
@@ -168,6 +201,9 @@ UNREADABLE = [
     f"odd_new {THREE_FOURS} #",
     f"odd_new {THREE_FOURS} #-1",
     f"odd_new {THREE_FOURS} #2 {FOUR}",
+    f"odd_intersect {THREE_FOURS} {THREE_FOURS} {THREE_FOURS} {FOUR}",
+    f"odd_intersect {THREE_FOURS} {THREE_FOURS} {THREE_FOURS} #0",
+    f"odd_intersect {THREE_FOURS} {THREE_FOURS} {THREE_FOURS} {FOUR} #1",
     line(("even_new", [0.0] * 65)),
 ]
 # As long as a line may be and longer, for the comparison alone.

@@ -1,5 +1,5 @@
-"""Each limit that the Rust text tests: a question with the limit in place of X, and with the number below it and the
-one above."""
+"""Each limit that the Rust text tests, and those of an odd asphere's intersection: a question with the limit in place
+of X, and with the number below it and the one above."""
 import math
 
 from fixed import UP
@@ -135,6 +135,28 @@ LIMITS = [
     ("toroid_intersect", [0.0, 0.0, 2.0**-30, 1e12, 0.0, X, 0.0, 50.0, 0.0, 0.0, 0.5], FAST, "667"),
     ("toroid_intersect", [0.0, 0.0, 2.0**-30, 2.0**50, 0.0, 2.0**20, 0.0, 50.0, 0.0, 0.0, X], 1.0, "711"),
     ("toroid_intersect", [0.0, 1.0, 0.0, 0.0, -1.0, 1e-14, 0.0, 1.0, X, -1.0, 2.0], -5900929163.378921, "611"),
+    ("odd_intersect", [0.0, 0.0, 0.0, 0.0, 0.0, X, 0.0, 0.0, 0.0, 10.0, 0], 1e-15, "611"),
+    ("odd_intersect", [0.0, X, -5.0, *UP, 0.0, 0.0, 0.0, 10.0, 0], 15.0, "776"),
+    ("odd_intersect", [0.0, 0.0, X, *UP, 0.0, 0.0, 0.0, 10.0, 0], 1e-11, "111"),
+    ("odd_intersect", [0.0, X, -5.0, *UP, 0.0, 0.0, 0.0, 10.0, 0], 10.0, "117"),
+    ("odd_intersect", [0.0, 0.0, 1.0, 0.0, 0.0, X, 0.0, 0.0, 0.0, 10.0, 0], 1e-15, "611"),
+    ("odd_intersect", [0.0, 4.0, 4.0, 0.0, SLANT, X, 0.0, 0.0, 0.0, 10.0, 1, 1 / 16, 1 / 2], SLANT + 1e-15, "446"),
+    ("odd_intersect", [0.0, 0.0, 2.0**-30, 1e12, 0.0, X, 0.0, 0.0, 0.0, 0.5, 0], FAST, "667"),
+    ("odd_intersect", [0.0, 0.0, 2.0**-30, 2.0**50, 0.0, 2.0**20, 0.0, 0.0, 0.0, X, 0], 1.0, "711"),
+    (
+        "odd_intersect",
+        [1.0, 0.0, 0.0, -1.0, 0.0, 1e-14, 0.0, 0.0, 0.0, 2.0, 0, *[0.0] * 7, X],
+        0.6122182934919013,
+        "116",
+    ),
+    # and where an odd asphere's slopes are 0 or along x; its c, its radicand and the root of it
+    ("odd_intersect", [X, 0.0, 1e-9, 1e6, 0.0, 1e6, 0.0, 1e11, -1.0, 10.0, 0], 1e-15, "111"),
+    ("odd_intersect", [0.0, X, 1e-9, 1e6, 0.0, 1e6, 0.0, 1e10, -1.0, 10.0, 0], 1e-14, "111"),
+    ("odd_intersect", [0.0, 0.0, 1e-9, 5e19, 0.0, 1e6, 0.0, 0.0, 0.0, 1e6, 0, X], 1e-14, "111"),
+    ("odd_intersect", [0.0, 0.0, 1e-9, 5e19, 0.0, 1e6, 0.0, 0.0, 0.0, 1e6, 0, X], -1e-14, "111"),
+    ("odd_intersect", [1e6, 0.0, 1e-3, 5e20, 0.0, 1e12, 0.0, X, -1.0, 1e7, 0], 1e-15, "111"),
+    ("odd_intersect", [X, 0.0, -1.0, *UP, 0.0, *BOWL, 10.0, 0], TURN, "111"),
+    ("odd_intersect", [X, 0.0, -1.0, *UP, 0.0, *BOWL, 10.0, 0], RIM, "116"),
 ]
 
 

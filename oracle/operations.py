@@ -13,7 +13,9 @@ SURFACES = {
     "biconic": "new paraxial rx ry sag derivatives normal intersect",
     "toroid": "new ry sag derivatives normal intersect",
 }
-OPERATIONS = [*NUMBERS, *TURNS, *(f"{kind}_{what}" for kind, whats in SURFACES.items() for what in whats.split())]
+IN_RUST = [*NUMBERS, *TURNS, *(f"{kind}_{what}" for kind, whats in SURFACES.items() for what in whats.split())]
+NOT_IN_RUST = ["odd_intersect"]
+OPERATIONS = [*IN_RUST, *NOT_IN_RUST]
 
 # Where the semi-diameter stands among a surface's numbers. The vertex z is not counted among them, not even a conic's.
 SEMI = {"conic": 2, "even": 2, "odd": 2, "biconic": 4, "toroid": 3}

@@ -2,11 +2,13 @@
 import math
 
 from floats import SMALLEST
-from operations import NUMBERS, OPERATIONS, TURNS, is_intersection
+from operations import IN_RUST, NOT_IN_RUST, NUMBERS, TURNS, is_intersection
 from rays import Rays
 from surfaces import sag
 
 MANY_EDGES = ("sag", "derivative", "derivatives", "normal", "reflect", "refract")
+# how often each sort is drawn in a hundred
+SORTS = {"ordinary": 50, "edge": 35, "hostile": 15}
 
 
 class Questions(Rays):
@@ -100,9 +102,20 @@ class Questions(Rays):
         return [x, y, *numbers]
 
 
+def generators(seed):
+    """Each with its operations: those that the Rust text has not are drawn apart, so that the others stay."""
+    return [(Questions(seed), IN_RUST), (Questions(f"{seed} not in Rust"), NOT_IN_RUST)]
+
+
+def weight(operation):
+    """More of what has more edges."""
+    return 6 if is_intersection(operation) else 3 if operation.endswith(MANY_EDGES) else 1
+
+
 def draws(seed, count):
-    """So many questions, more of what has more edges."""
-    questions = Questions(seed)
-    weights = [6 if is_intersection(o) else 3 if o.endswith(MANY_EDGES) else 1 for o in OPERATIONS]
-    for operation in questions.random.choices(OPERATIONS, weights, k=count):
-        yield questions.question(operation, questions.random.choices(["ordinary", "edge", "hostile"], [50, 35, 15])[0])
+    """Of each generator a list: so many questions of the Rust text's operations, and of the others in proportion."""
+    for questions, operations in generators(seed):
+        choices, weights = questions.random.choices, [*map(weight, operations)]
+        share = count * sum(weights) // sum(map(weight, IN_RUST))
+        drawn = choices(operations, weights, k=share)
+        yield [questions.question(operation, choices(list(SORTS), SORTS.values())[0]) for operation in drawn]

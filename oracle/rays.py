@@ -24,7 +24,7 @@ class Rays(Surfaces):
         if kind == "conic":
             return [*ways, self.other_sheet, self.on_the_axis, self.equator]
         ways += [self.along_the_slope, self.last_move, self.many_passes]
-        return [*ways, self.beside_the_axis] if kind == "even" else ways
+        return ways + {"even": [self.beside_the_axis], "odd": [self.beside_odd_axis]}.get(kind, [])
 
     def in_one_move(self, kind):
         """The direction is so long that Newton's first move is the last: its t shows how the slope was rounded."""
@@ -117,6 +117,7 @@ class Rays(Surfaces):
             "even": (4.0, 1.0, 2.0, [0.0, 0.0, 10.0, 0.125]),
             "biconic": (4.0, 1.0, 2.0, [0.25, -1.0, 0.25, -1.0, 10.0]),
             "toroid": (3.0, 0.75, 1.0, [5.0, 0.0, 0.0, 10.0]),
+            "odd": (4.0, 1.0, 3.0, [0.0, 0.0, 10.0, 1, 0.0625, 0.5]),
         }[kind]
         size = self.choice([0.0, *[2.0 ** -self.random.randrange(31)] * 3])
         gap = self.signed(self.choice([0.0, self.beside(1e-15), self.size(-17, -14)]))
@@ -137,13 +138,25 @@ class Rays(Surfaces):
 
     def many_passes(self, kind):
         """Nearly level, to a crossing so flat that it takes about as many passes as are allowed."""
+        steep = [*[0.0] * 7, self.size(-2, 1)]
         start, across, numbers = {
-            "even": ([1.0, 0.0, 0.0], [-1.0, 0.0], [0.0, 0.0, 2.0, *[0.0] * 7, self.size(-2, 1)]),
+            "even": ([1.0, 0.0, 0.0], [-1.0, 0.0], [0.0, 0.0, 2.0, *steep]),
             "biconic": ([1.0, 0.0, 0.0], [-1.0, 0.0], [self.size(7, 11), -1.0, 0.0, 0.0, 2.0]),
             "toroid": ([0.0, 1.0, 0.0], [0.0, -1.0], [1.0, -self.size(7, 11), -1.0, 2.0]),
+            "odd": ([1.0, 0.0, 0.0], [-1.0, 0.0], [0.0, 0.0, 2.0, 0, *steep]),
         }[kind]
         return [*start, *across, self.size(-15, -14)], 0.0, numbers
 
     def beside_the_axis(self, even):
         """r is beside 1e-14, where the slope is already felt; the first move is the last."""
         return [self.beside(1e-14), 0.0, 1e-9, 1e6, 0.0, 1e6], 0.0, [1e10, -1.0, 10.0]
+
+    def beside_odd_axis(self, odd):
+        """r is beside 1e-15 or 1e-14, or the first odd coefficient beside 1e-14, where slopes are 0, or along x, or of
+        both x and y; the first move is the last, and may lead out of the semi-diameter."""
+        r = self.choice([0.0, self.beside(1e-15), self.beside(1e-14), self.size(-15.5, -13.5)])
+        x, y = self.choice([(r, 0.0), (0.0, r), (0.6 * r, -0.8 * r)])
+        first = self.signed(self.choice([0.0, self.beside(1e-14), self.size(-3, -1)]))
+        across = self.choice([(1e6, 0.0), (0.0, 1e6), (5e5, 2e6), (5e19, 0.0)])
+        semi = self.choice([1e6, 7e4])
+        return [x, y, 1e-9, *across, 1e6], 0.0, [self.choice([0.0, 1e10]), -1.0, semi, 0, first]

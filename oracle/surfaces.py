@@ -22,10 +22,23 @@ def sag(kind, numbers, x, y):
         return (cx * x * x + cy * y * y) / (1 + math.sqrt(max(radicand, 0.0)))
     c, k, _, *coefficients = numbers
     r2 = x * x + y * y
+    if kind == "odd":
+        even, odd = both_sets(coefficients)
+        return conic_sag(c, k, r2) + power_sum(even, r2) + (power_sum(odd, r2) / math.sqrt(r2) if r2 else 0.0)
+    return conic_sag(c, k, r2) + power_sum(coefficients, r2)
+
+
+def both_sets(counted):
+    """An odd asphere's even and odd coefficients, from the count of the even ones and all of them."""
+    even, *coefficients = counted
+    return coefficients[:even], coefficients[even:]
+
+
+def power_sum(coefficients, r2):
     terms = 0.0
     for a in reversed(coefficients):
         terms = (terms + a) * r2
-    return conic_sag(c, k, r2) + terms
+    return terms
 
 
 class Surfaces:

@@ -1,8 +1,8 @@
 //! Where a ray meets a surface by Newton's method, and in how many passes.
 //!
-//! The Rust text's intersections do not tell their passes, so they are made here once more, over the Rust text's own sags
-//! and slopes. Of an odd asphere it has no intersection, and hands out no slopes: those are written here from SCOPE, and
-//! have to be those of the Rust text's own normal.
+//! The Rust text's intersections do not tell their passes, so they are made here once more, over the Rust text's own
+//! sags and slopes. Of an odd asphere it has no intersection, and hands out no slopes: those are written here from
+//! SCOPE, and have to be those of the Rust text's own normal.
 
 use std::iter::successors;
 use std::ops::ControlFlow::{self, Break, Continue};

@@ -5,7 +5,7 @@ import struct
 
 from operations import SEMI
 from rays import Rays
-from recipes import KINDS, LENSES, LIMITS, MIRROR, bytes_of, places, recipe, record
+from recipes import KINDS, LENSES, LIMITS, MIRROR, bytes_of, in_a_record, places, recipe, record
 from scripts import MOST, WIDTH, continue_line, recipe_line, room_line, start_line, state_line
 
 # how often each sort is drawn in a hundred
@@ -13,11 +13,14 @@ SORTS = {"lens": 20, "relay": 1, "chain": 34, "spoilt": 12, "damaged": 13, "shor
 
 
 class Scripts(Rays):
+    kinds = ["conic", "even", "biconic", "toroid"]
+    sorts = SORTS
+
     def script(self, sort):
         return getattr(self, sort)()
 
     def drawn(self, count):
-        return [self.script(sort) for sort in self.random.choices(list(SORTS), SORTS.values(), k=count)]
+        return [self.script(sort) for sort in self.random.choices(list(self.sorts), self.sorts.values(), k=count)]
 
     def index(self):
         return self.choice([1.0, 1.0, 1.5, self.uniform(1, 2.5)])
@@ -52,11 +55,11 @@ class Scripts(Rays):
 
     def met(self):
         """A surface, and a ray that meets it, often at an edge."""
-        kind = self.choice(list(KINDS))
+        kind = self.choice(self.kinds)
         meet = self.aimed if self.one_in(3) else self.choice(self.meetings(kind))
         ray, vertex, numbers = meet(kind)
         numbers[SEMI[kind]] = abs(numbers[SEMI[kind]])
-        return (kind, vertex, self.index(), numbers[:11], self.one_in(4)), ray
+        return (kind, vertex, self.index(), in_a_record(kind, numbers), self.one_in(4)), ray
 
     def behind(self, first, ray):
         """Some surfaces farther on, and after a mirror farther back."""
@@ -64,8 +67,8 @@ class Scripts(Rays):
         for _ in range(self.choice([0, 1, 2, 4])):
             way = -way if surfaces[-1][4] else way
             z += way * self.uniform(0, 20)
-            kind = self.choice(list(KINDS))
-            surfaces.append((kind, z, self.index(), self.surface(kind), self.one_in(4)))
+            kind = self.choice(self.kinds)
+            surfaces.append((kind, z, self.index(), in_a_record(kind, self.surface(kind)), self.one_in(4)))
         return surfaces
 
     def chain(self):
@@ -143,8 +146,8 @@ class Scripts(Rays):
     def standing(self):
         """A recipe, and a state that fits it."""
         first, ray = self.met()
-        kinds = self.random.choices(list(KINDS), k=self.random.randrange(3))
-        before = [(kind, -1.0, 1.0, self.surface(kind), False) for kind in kinds]
+        kinds = self.random.choices(self.kinds, k=self.random.randrange(3))
+        before = [(kind, -1.0, 1.0, in_a_record(kind, self.surface(kind)), False) for kind in kinds]
         surfaces = [*before, *self.behind(first, ray)]
         number, limit = len(before), LIMITS[first[0]]
         vertex_plane = (first[1] - ray[2]) / ray[5] if ray[5] else 0.0
@@ -194,3 +197,13 @@ class Scripts(Rays):
                 "outcome": self.random.randrange(14),
             }[what]
         return self.taken_up(surfaces, state)
+
+
+class OddScripts(Scripts):
+    """Half of the surfaces are odd aspheres. They are drawn apart, so that the other scripts stay."""
+
+    kinds = [*Scripts.kinds, *["odd"] * len(Scripts.kinds)]
+    sorts = {sort: share for sort, share in SORTS.items() if sort not in ("lens", "relay")}
+
+    def __init__(self, seed):
+        super().__init__(f"{seed} odd")

@@ -334,6 +334,113 @@ def longest():
     return [*begun, (start_line([1.0, 2.0, -5.0, *UP]), "1 0 0 0"), *taken_up, ended, *behind_it]
 
 
+def odd(semi, first=0.0, last=0.0, z=0.0, index=1.0, mirror=False, base=(0.0, 0.0)):
+    """All coefficients but the first and the last odd one are 0."""
+    return ("odd", z, index, [*base, semi, *[0.0] * 8, first, *[0.0] * 6, last], mirror)
+
+
+def first_pass(surface, ray, t):
+    """It goes on with this t."""
+    reply = ["continue 1 0", state_line(0, 0, 1, t, ray, 1.0, 0.0, 1, 0)]
+    return [*given([surface]), (start_line(ray), "1 0 0 0"), (continue_line(1), reply)]
+
+
+# nearly level, to a crossing that takes all passes
+LEVEL = [1.0, 0.0, 0.0, -1.0, 0.0, 1e-14]
+ODD_TRACES = [
+    # r at both exits
+    traced([odd(5.0, 1 / 4)], [4.0, 0.0, -1.0, *UP], "2 1", cuts=[(0, "0 0"), (1, "1 0")]),
+    traced([odd(3.0, 1 / 4)], [4.0, 0.0, -1.0, *UP], "2 7", cuts=[(1, "1 0"), (1, "2 7"), (1, "2 7")]),
+    traced([odd(2.0, 1 / 4)], [4.0, 0.0, -1.0, *UP], "1 6"),
+    traced([odd(5.0, 1 / 4, mirror=True)], [4.0, 0.0, -1.0, *UP], "2 1"),
+    traced([odd(0.5)], FLAT_AND_FAST, "1 7"),
+    # slopes are 0 on the axis for a coefficient below 1e-14, and along x up to an r of 1e-14
+    first_pass(odd(2.0**60, 2.0**-47), [0.0, 0.0, 1.0, 2.0**46, 0.0, 1.0], -1.0),
+    traced([odd(2.0**60, 2.0**-46)], [0.0, 0.0, 1.0, 2.0**46, 0.0, 1.0], "1 4"),
+    first_pass(odd(5.0, 1 / 2), [0.0, 2.0**-49, 1.0, 1.0, 0.0, 1.0], 2.0**-49 - 2.0),
+    first_pass(odd(5.0, 1 / 2), [0.0, 2.0**-46, 1.0, 1.0, 0.0, 1.0], 2.0**-47 - 1.0),
+    # the 25th pass is the last
+    traced([odd(2.0, last=0.5)], LEVEL, "25 1", cuts=[(24, "24 0")]),
+    traced([odd(2.0, last=1.0)], LEVEL, "25 6", cuts=[(24, "24 0"), (1, "25 6")]),
+    # all coefficients take part: 0 times an overflowed power is NaN
+    traced([odd(2.0**70)], [2.0**63, 0.0, -1.0, *UP], "1 1"),
+    traced([odd(2.0**70)], [2.0**66, 0.0, -1.0, *UP], "2 6", cuts=[(1, "1 0")]),
+    # where the base turns back no slope is refused; 4 of the slope, 5 of the normal, 6 of an infinite way, 8, 9
+    traced([odd(10.0, base=(1.0, 0.0))], [1.0, 0.0, -5.0, *UP], "2 1"),
+    traced([odd(10.0, 1.0)], [4.0, 0.0, 3.0, 1.0, 0.0, 1.0], "1 4"),
+    traced([odd(10.0, base=(0.25, 0.0))], [0.0, 0.0, 2.0**-30, 5 * 2.0**50, 0.0, 2.0**20], "1 5"),
+    traced([odd(10.0, z=1e308)], TOO_FAR, "1 6"),
+    traced([odd(10.0)], [0.0, 0.0, -1.0, 0.8, 0.0, 0.6], "1 8", index=2.0),
+    traced([odd(10.0, index=2.0**-600)], AXIS, "1 9", index=2.0**600),
+    # on the axis the beam is turned along x; what it meets then takes a move and a look
+    traced([PLANE, odd(10.0, 1 / 4, z=3.0, index=1.5), plane(9.0, mirror=True), odd(10.0, -1 / 8)], AXIS, "5 1"),
+]
+
+
+def damaged_odd():
+    """Told as for the other kinds."""
+    good = odd(10.0, 1 / 4, z=1.0)
+    whole, mirror = record(*good), (*good[:4], True)
+    tried = [*given([PLANE, good]), (start_line(AXIS), "1 0 0 0")]
+    malformed = [
+        *(bytes_of(kind, [1.0] * count) for kind in (5, 261) for count in (20, 22)),
+        *(bytes_of(5, [1.0] * count) for count in (5, 13)),
+        *(with_kind(whole, kind) for kind in (2, 258, 517)),
+        *(with_length(whole, length) for length in (169, 171)),
+        whole[:-1],
+        with_length(spoilt(good, vertex=NAN), 162),
+    ]
+    refused = [
+        *((spoilt(s, vertex=NAN), 2) for s in (good, mirror)),
+        (spoilt(good, index=INFINITY), 2),
+        *((spoilt(good, own=(i, NAN)), 2) for i in (0, 3, 10, 11, 18)),
+        *((negative(s), 2) for s in (good, mirror)),
+        *((spoilt(s, index=0.0), 4) for s in (good, mirror)),
+        (spoilt(good, index=0.0, own=(2, -1.0)), 2),
+    ]
+    for data, number in [*((data, 10) for data in malformed), *refused]:
+        tried += [(recipe_line(behind(data)), None), (continue_line(1), f"{number} {AFTER} 0 0")]
+    return tried
+
+
+def forged_odd():
+    """A state of 24 passes fits, and one of 25 does not."""
+    surfaces = [PLANE, odd(10.0, 1 / 8, z=10.0, index=1.5), plane(20.0)]
+    on_it, most = ON_EVEN | dict(place=places(surfaces)[1]), sum(LIMITS[surface[0]] for surface in surfaces)
+    tried = [*given(surfaces), (start_line(AXIS), "1 0 0 0")]
+    for change in (dict(passes=25), dict(passes=1, outcome=6), dict(steps=most + 1)):
+        state = on_it | change
+        tried += [(state_line(**state), None), (continue_line(1), f"12 0 {state['steps']} {state['outcome']}")]
+    for change, steps, end in [
+        (dict(passes=23, t=-3.0), 1, "6 0"),
+        (dict(passes=24, t=-3.0), 1, "6 6"),
+        (dict(passes=1, t=NAN), 1, "6 6"),
+        (dict(steps=most), 1, f"{most + 1} 0"),
+    ]:
+        tried += [(state_line(**on_it | change), None), (continue_line(steps), f"1 0 {end}")]
+    return tried
+
+
+FULL = [*(odd(10.0, z=float(i)) for i in range(380)), *(plane(380.0 + i) for i in range(4))]
+ENDS = places(FULL)
+
+
+def past_the_end(last):
+    """A recipe of 65,540 bytes, which ends with this record of a biconic."""
+    return recipe([*FULL[:380], BICONIC, BICONIC]) + last
+
+
+def most_bytes():
+    """All 65,536 bytes of a recipe, near whose end a trace is taken up; then a record past them, with a NaN."""
+    near = state_line(379, ENDS[379], 0, 0.0, [1.0, 2.0, 378.5, *UP], 1.0, 1000.0, 379, 0)
+    end = ON_PLANE | dict(number=384, steps=384, outcome=1)
+    tried = [*given(FULL), (start_line(AXIS), "1 0 0 0"), (near, None), (continue_line(3), "1 0 382 0")]
+    tried += [(continue_line(), "1 0 384 1"), (state_line(**end), None), (continue_line(1), "12 0 384 1")]
+    tried += [(state_line(**end | dict(place=65536)), None), (continue_line(1), "1 0 384 1")]
+    past = past_the_end(spoilt(BICONIC, vertex=NAN))
+    return [*tried, (recipe_line(past), None), (continue_line(1), "10 65480 384 1")]
+
+
 STATE = state_line(0, 0, 0, 0.0, AXIS, 1.0, 0.0, 0, 0)
 UNREADABLE = [
     "",
@@ -421,13 +528,24 @@ def lenses():
         yield [*begun, (continue_line(), "1 0")]
 
 
+def refused_at_the_end():
+    """Records are looked at in order, and each one's end before its numbers."""
+    for data, number, place in (
+        (past_the_end(record(*BICONIC)), 10, 65480),
+        (recipe([*FULL, PLANE]), 10, 65536),
+        (recipe([*FULL[:383]]) + spoilt(FULL[383], vertex=NAN), 2, ENDS[383]),
+        (spoilt(FULL[0], vertex=NAN) + past_the_end(record(*BICONIC))[ENDS[1] :], 2, 0),
+    ):
+        yield from ((recipe_line(data), None), (continue_line(), f"{number} {place} 0 1"))
+
+
 # Longer than a stored list should be: the longest lines, and the station before any line.
 LONG = [
     (continue_line(), "12 0 0 0"),
-    ("recipe " + "00" * 65536, None),
+    ("recipe " + "00" * 65596, None),
     (room_line(0), None),
     (start_line(AXIS), "10 0 0 10"),
-    ("recipe " + "00" * 65537, "?"),
+    ("recipe " + "00" * 65597, "?"),
     ("recipe " + " " * 131193, None),
     (start_line(AXIS), "1 0 0 1"),
     ("recipe " + " " * 131194, "?"),
@@ -435,9 +553,11 @@ LONG = [
     (continue_line(), "1 0 0 1"),
     (recipe_line(recipe(RELAY) + b"\0"), None),
     (continue_line(), f"10 {44 * 512} 0 1"),
+    *refused_at_the_end(),
 ]
 
 
 def fixed_scripts():
     """All but the long ones."""
-    return [EXAMPLE, SIGNS, *TRACES, *lenses(), *damaged(), *bad_rays(), *rooms(), *forged(), unreadable(), longest()]
+    scripts = [EXAMPLE, SIGNS, *TRACES, *lenses(), *damaged(), *bad_rays(), *rooms(), *forged()]
+    return [*scripts, unreadable(), longest(), *ODD_TRACES, damaged_odd(), forged_odd(), most_bytes()]

@@ -9,9 +9,20 @@ TOP = Path(__file__).resolve().parent.parent
 sys.path.insert(0, str(TOP / "tools"))
 from prescription import read
 from records import MIRROR, SHAPES, bytes_of, places, recipe, record, record_at
+from surfaces import both_sets
 
 KINDS = {kind: shape.kind for kind, shape in SHAPES.items()}
 LIMITS = {kind: shape.steps for kind, shape in SHAPES.items()}
+MOST_COEFFICIENTS = 8
+
+
+def in_a_record(kind, numbers):
+    """A question's surface with no more coefficients than a record has; an odd asphere's has all, unused ones 0."""
+    if kind != "odd":
+        return numbers[: 3 + MOST_COEFFICIENTS]
+    c, k, semi, *counted = numbers
+    even, odd = ([*some, *[0.0] * MOST_COEFFICIENTS][:MOST_COEFFICIENTS] for some in both_sets(counted))
+    return [c, k, semi, *even, *odd]
 
 
 def sample(name):

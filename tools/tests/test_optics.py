@@ -12,7 +12,8 @@ ASKED = {"sag": 75, "derivatives": 40, "normal": 50, "turn": 30, "intersect": 25
 # the coefficients of an odd asphere's record
 TERMS = len(SHAPES["odd"].coefficients)
 
-# what SCOPE's own checks refuse, which a start makes before a trace; a plane's normal, which no trace asks for
+# what SCOPE's own checks refuse, which a start makes before a trace; a plane's normal, which no trace asks for; a ray so
+# far out that a power of r overflows, where a record's 0 counts and a question without that coefficient has none
 LEFT_OUT = {
     "conic_normal": lambda numbers: abs(numbers[4]) < 1e-15,
     "conic_intersect": lambda numbers: numbers[9] < 0,
@@ -21,10 +22,14 @@ LEFT_OUT = {
     "even_intersect": lambda numbers: numbers[9] < 0 or len(numbers) > 18,
     "odd_sag": lambda numbers: numbers[0] < 0 or len(numbers) > 4 + TERMS,
     "odd_normal": lambda numbers: len(numbers) > 5 + TERMS,
-    "odd_intersect": lambda numbers: numbers[9] < 0 or len(numbers) > 10 + TERMS,
+    "odd_intersect": lambda numbers: numbers[9] < 0 or len(numbers) > 10 + TERMS or is_far(numbers[:6]),
     "biconic_intersect": lambda numbers: numbers[11] < 0,
     "toroid_intersect": lambda numbers: numbers[10] < 0,
 }
+
+
+def is_far(ray):
+    return max(map(abs, ray)) >= 2.0**60
 
 
 def vectors(numbers):

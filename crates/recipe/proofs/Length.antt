@@ -2,22 +2,33 @@
 use Prim.Native.Nat.{ℕ, zero, suc, _+_, _*_, _/_, _%_, _≤_, _<_}
 use native.Mathlib.Omega.{arith}
 use mathlib.Core.Path.{_≡_, refl, sym}
-use mathlib.Core.Bool.{Bool, true, false, _&&_, and-false, and-true}
+use mathlib.Core.Bool.{Bool, true, false, _&&_, and-false}
 use mathlib.Core.List.{List}
 use lib.ListN.{length, take}
 use lib.Seq.{getD-take, length-take-le}
 use lib.Dec.{eqb, leb}
-use borrow.Author.Tests.{eqb-true, leb-true, leb-false, le-leb}
+use borrow.Author.Tests.{eqb-true, leb-true, leb-false, le-leb, lt-leb}
 use Rattle.numbers.specs.Arithmetic.{if_then_else_}
 use Rattle.surfaces.specs.declared.surface.Kind.the-variants.{Conic, Even, Odd, Biconic, Toroid}
 use Rattle.recipe.specs.Endian.{u16At, u64At, numberAt, numbersAt}
 use Rattle.recipe.specs.Record.{Read, bad, good, lengthAt, kindAt, endAt, slotAt, lengthFits, formedAt, longest}
 use Rattle.recipe.specs.Record.{shapedAt, semiSlot, kindOf, oddCount, evenCount, coefficientsAt, opticAt, recordAt}
 use Rattle.recipe.specs.Scan.{onRead, scan}
-use Rattle.recipe.specs.Length.{Edge, RefusedAlike, TooLong}
-use Rattle.recipe.proofs.Shapes.{semi-least, semi-biconic, shape, ends-late, begins-late}
+use Rattle.recipe.specs.Length.{RefusedAlike, TooLong}
+use Rattle.recipe.proofs.Shapes.{semi-least, semi-biconic, fits, shape}
 use Rattle.recipe.proofs.Records.{good-inside}
 use Rattle.recipe.proofs.Scans.{scan-full, scan-record}
+
+-- a record whose kind stands past the longest recipe has no shape: it fits no length, or ends past it too
+begins-late : (b : List ℕ) (at : ℕ) → longest < at + 4 → shapedAt b at ≡ false
+unfolding shapedAt formedAt
+begins-late b at h = by (lengthFits (kindAt b at % 256) (lengthAt b at)) refl
+  where
+    by : (t : Bool) → lengthFits (kindAt b at % 256) (lengthAt b at) ≡ t → shapedAt b at ≡ false
+    by true e =
+        let f = fits (kindAt b at % 256) (lengthAt b at) e in
+        rw (lt-leb (endAt b at) longest (omega arith)) (simp and-false)
+    by false e = rw e (simp and-false)
 
 -- what is read of the first n bytes alone
 module _ (b : List ℕ) (n : ℕ) where
@@ -167,10 +178,3 @@ module _ (b : List ℕ) (most : ℕ) (long : longest < length b) where
 
 pub too-long : TooLong
 too-long b most h = alike b most h most 0 (omega arith)
-
-pub edge : Edge
-unfolding shapedAt recordAt
-edge = record {
-  last = λ b at e. rw e (and-true (formedAt b at));
-  past = λ b at e. rw (ends-late b at (omega arith));
-}

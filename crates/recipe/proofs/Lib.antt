@@ -1,4 +1,5 @@
 -- Laws that several proofs use.
+pub mod Cases
 pub mod Shapes
 mod Numbers
 mod Patterns

@@ -1,8 +1,8 @@
 -- What the shape of a record tells of its places: all that is read of it lies within it, and it within the recipe.
 -- Assumes nothing.
-use Prim.Native.Nat.{ℕ, _+_, _-_, _*_, _/_, _%_, _≤_, _<_}
+use Prim.Native.Nat.{ℕ, _+_, _-_, _*_, _/_, _%_, _≤_}
 use mathlib.Core.Path.{_≡_, refl}
-use mathlib.Core.Bool.{Bool, true, false, _&&_, and-false}
+use mathlib.Core.Bool.{Bool, true, false, _&&_}
 use mathlib.Core.List.{List}
 use native.Mathlib.Omega.{arith}
 use lib.ListN.{length}
@@ -24,11 +24,14 @@ pub record Fitting (kind len : ℕ) : Type 0 where
   pub odd : oddCount kind ≤ 8
   pub terms : 42 + 8 * evenCount kind len + 8 * oddCount kind ≤ len
 
--- a record at a place of so many bytes
-pub record Shape (n at kind len : ℕ) : Type 0 where
+-- a record at a place of so many bytes, by its own shape, and with its end
+pub record Formed (n at kind len : ℕ) : Type 0 where
   pub inside : at + 2 + len ≤ n
-  pub end : at + 2 + len ≤ longest
   pub fitting : Fitting kind len
+
+pub record Shape (n at kind len : ℕ) : Type 0 where
+  pub own : Formed n at kind len
+  pub end : at + 2 + len ≤ longest
 
 -- every kind has four numbers before its semi-diameter, and a biconic has six
 pub semi-least : (kind : ℕ) → 4 ≤ semiSlot kind
@@ -87,33 +90,25 @@ fits kind len = by (eqb kind 1) refl (eqb kind 2) refl (eqb kind 3) refl (eqb ki
         rw (eqb-true kind 5 (p .0), eqb-true len 170 (p .1))
         (fitting 5 170 (lit≤ tt) (lit≤ tt) refl (lit≤ tt) (lit≤ tt, lit≤ tt, lit≤ tt))
 
-pub shape : (b : List ℕ) (at : ℕ) {len kind : ℕ} → shapedAt b at ≡ true → len ≡ lengthAt b at → kind ≡ kindAt b at
-    → Shape (length b) at (kind % 256) len
-unfolding shapedAt formedAt
-shape b at h l k =
-    let o = both _ (leb (endAt b at) longest) h in
-    let p = both _ (lengthFits (kindAt b at % 256) (lengthAt b at)) (o .0) in
+pub formed : (b : List ℕ) (at : ℕ) {len kind : ℕ} → formedAt b at ≡ true → len ≡ lengthAt b at → kind ≡ kindAt b at
+    → Formed (length b) at (kind % 256) len
+unfolding formedAt
+formed b at h l k =
+    let p = both _ (lengthFits (kindAt b at % 256) (lengthAt b at)) h in
     let q = both _ (leb (kindAt b at / 256) 1) (p .0) in
     let r = both (leb (at + 4) (length b)) _ (q .0) in
     rw (l, k)
     (record {
       inside = leb-true (endAt b at) (length b) (r .1);
-      end = leb-true (endAt b at) longest (o .1);
       fitting = fits (kindAt b at % 256) (lengthAt b at) (p .1);
     })
 
--- a record that ends past the longest recipe has no shape, nor has one whose kind stands there
-pub ends-late : (b : List ℕ) (at : ℕ) → longest < endAt b at → shapedAt b at ≡ false
+pub shape : (b : List ℕ) (at : ℕ) {len kind : ℕ} → shapedAt b at ≡ true → len ≡ lengthAt b at → kind ≡ kindAt b at
+    → Shape (length b) at (kind % 256) len
 unfolding shapedAt
-ends-late b at h = rw (lt-leb (endAt b at) longest h) (and-false (formedAt b at))
-
-pub begins-late : (b : List ℕ) (at : ℕ) → longest < at + 4 → shapedAt b at ≡ false
-unfolding shapedAt formedAt
-begins-late b at h = by (lengthFits (kindAt b at % 256) (lengthAt b at)) refl
-  where
-    by : (t : Bool) → lengthFits (kindAt b at % 256) (lengthAt b at) ≡ t → shapedAt b at ≡ false
-    by true e = let f = fits (kindAt b at % 256) (lengthAt b at) e in ends-late b at (omega arith)
-    by false e = rw e (simp and-false)
+shape b at h l k =
+    let p = both (formedAt b at) _ h in
+    record { own = formed b at (p .0) l k; end = rw l (leb-true (endAt b at) longest (p .1)) }
 
 pub source-room : (b : List ℕ) → isSource b ≡ true → sourceBytes ≤ length b
 unfolding isSource

@@ -3,8 +3,8 @@ ghost use mathlib.Core.Path.{_≡_};
 ghost use mathlib.Core.Bool.{true};
 ghost use lib.ListN.{length};
 ghost use Prim.Native.Nat.{_+_, _*_, _≤_};
-ghost use Rattle.recipe.specs.Record.{slotAt, lengthFits, shapedAt, semiSlot, kindOf, oddCount, evenCount};
-ghost use Rattle.recipe.specs.Record.{coefficientsAt, opticAt, readAt, noOptic};
+ghost use Rattle.recipe.specs.Record.{slotAt, lengthFits, formedAt, shapedAt, semiSlot, kindOf, oddCount};
+ghost use Rattle.recipe.specs.Record.{evenCount, coefficientsAt, opticAt, readAt, noOptic};
 use crate::endian::NUMBER_BYTES;
 use crate::endian::number_at;
 use crate::endian::u16_at;
@@ -122,14 +122,11 @@ fn length_fits(kind: usize, len: usize) -> bool
     (kind == KIND_ODD_ASPHERE) & (len == LENGTH_ODD_ASPHERE)
 }
 
-// Whether a record is whole, its length one that its kind has, and its end within the longest recipe.
-pub(crate) fn is_shaped(s: &[u8], at: usize) -> bool
-    ensures { λ r. ⌜ r ≡ shapedAt (now (s .entry)) at ⌝ }
+// Whether a record is whole, and its length one that its kind has.
+fn is_formed(s: &[u8], at: usize) -> bool
+    ensures { λ r. ⌜ r ≡ formedAt (now (s .entry)) at ⌝ }
 {
     if s.len() < at {
-        return false;
-    }
-    if MOST_RECIPE_BYTES < at {
         return false;
     }
     let room = s.len() - at;
@@ -138,10 +135,18 @@ pub(crate) fn is_shaped(s: &[u8], at: usize) -> bool
     }
     let len = u16_at(s, at);
     let kind = u16_at(s, at + LENGTH_BYTES);
-    (LENGTH_BYTES + len <= room)
-        & (kind / KIND_MIRROR <= 1)
-        & length_fits(kind % KIND_MIRROR, len)
-        & (at + LENGTH_BYTES + len <= MOST_RECIPE_BYTES)
+    (LENGTH_BYTES + len <= room) & (kind / KIND_MIRROR <= 1) & length_fits(kind % KIND_MIRROR, len)
+}
+
+// And whether it ends within the longest recipe.
+pub(crate) fn is_shaped(s: &[u8], at: usize) -> bool
+    ensures { λ r. ⌜ r ≡ shapedAt (now (s .entry)) at ⌝ }
+{
+    if is_formed(s, at) {
+        at + LENGTH_BYTES + u16_at(s, at) <= MOST_RECIPE_BYTES
+    } else {
+        false
+    }
 }
 
 pub(crate) fn semi_slot(kind: usize) -> usize

@@ -1,44 +1,29 @@
--- The tests of the rule on the room behind the place, which keep every sum within the slice. Assumes nothing.
-use Prim.Native.Nat.{_+_, _≤_}
+-- The record's own shape, which keeps its end within the slice, and then that end. Assumes nothing.
+use Prim.Native.Nat.{_%_}
+use mathlib.Core.Path.{refl, sym, _∙_}
 use native.Mathlib.Omega.{arith}
-use borrow.Author.Needs.{needs}
-use borrow.Author.Tests.{le-leb, lt-leb}
 use lib.ListN.{length}
-use Rattle.recipe.specs.Record.{formedAt, shapedAt}
-use Rattle.recipe.proofs.Shapes.{room-test, begins-late}
+use Rattle.recipe.specs.Record.{lengthAt, kindAt, shapedAt}
+use Rattle.recipe.proofs.Shapes.{Formed, formed}
 use Rattle.recipe.proofs.record.is_shaped.Statement.{statement}
 use Rattle.recipe.proofs.record.is_shaped.Tie as tie
 
--- the start, from where there is room for length and kind
-abbrev start : tie.Else3 → tie.Start
-start c = c .before .before .before .before
+-- what its own shape tells of its places
+places : (c : tie.Then1) →
+    let a = c .before .before .before .args in
+    Formed (length (a .s .now)) (a .at) (kindAt (a .s .now) (a .at) % 256) (lengthAt (a .s .now) (a .at))
+places c = formed _ _ (sym (c .before .is-formed .ensures) ∙ c .if1 .taken) refl refl
 
 pub is-shaped-spec : {M : Type 1} → statement M
-unfolding shapedAt formedAt
+unfolding shapedAt
 is-shaped-spec =
     tie.close
     (tie.spec
-    (λ c. let a = c .before .before .args in rw (lt-leb (a .at + 4) (length (a .s .now)) (omega arith)))
-    (λ c. let a = c .before .before .before .args in rw (begins-late (a .s .now) (a .at) (omega arith)))
-    (λ c. search needs)
-    (λ c. let a = c .before .before .before .before .args in rw (lt-leb (a .at + 4) (length (a .s .now)) (omega arith)))
-    (λ c κs. search needs)
-    (λ c. search needs)
-    (λ c κs. search needs)
-    (λ c. search needs)
     (λ c κs. tt)
-    (λ c. search needs)
-    (λ c. search needs)
+    (λ c. let f = places c in omega arith)
+    (λ c κs. let f = places c in omega arith)
+    (λ c. let f = places (c .before) in omega arith)
     (λ c.
-    let kind = c .before in
-    let len = kind .before in
-    let a = start (len .before) .args in
-    let n = length (a .s .now) in
-    let h : a .at ≤ n = omega arith in
-    rw (
-      le-leb (a .at + 4) n (omega arith),
-      ← len .u16-at .ensures .0,
-      ← kind .u16-at2 .ensures .0,
-      ← c .length-fits .ensures,
-      room-test n (a .at) _ h,
-    )))
+    let own = c .before in
+    rw (← own .before .is-formed .ensures, own .if1 .taken, ← c .u16-at .ensures .0))
+    (λ c. rw (← c .before .is-formed .ensures, c .if1 .left)))

@@ -21,8 +21,8 @@
 #include "lens.h"
 #include "pilingrue.h"
 
-/* A number's role in a record says how an ordinary one is drawn: Vertex, Index, Curvature, K, Semi-diameter, Radius, A
-   coefficient. */
+/* A number's role in a record says how an ordinary one is drawn: Vertex, Index, Curvature, K, Semi-diameter, Radius; A
+   coefficient that may be left out, or one that is Bound to be there. */
 static const struct kind {
     const char *name, *roles;
     unsigned number, passes;
@@ -31,6 +31,7 @@ static const struct kind {
     {"even asphere", "VICKSAAAAAAAA", PILINGRUE_KIND_EVEN_ASPHERE, PILINGRUE_STEPS_EVEN_ASPHERE},
     {"biconic", "VICKCKS", PILINGRUE_KIND_BICONIC, PILINGRUE_STEPS_BICONIC},
     {"toroid", "VIRCKS", PILINGRUE_KIND_TOROID, PILINGRUE_STEPS_TOROID},
+    {"odd asphere", "VICKSBBBBBBBBBBBBBBBB", PILINGRUE_KIND_ODD_ASPHERE, PILINGRUE_STEPS_ODD_ASPHERE},
 };
 /* The state's: T, origin across and along the axis, direction across and along, Index, Path. */
 static const char STATE_ROLES[] = "TOOZDDEIP";
@@ -39,14 +40,15 @@ enum {
     KIND_COUNT = sizeof KINDS / sizeof *KINDS,
     SLOTS = 2 * KIND_COUNT, /* each kind refracting, then as a mirror */
     COEFFICIENTS = 8,
-    MOST_NUMBERS = 13,
+    MOST_NUMBERS = 21,
     ROOM = PILINGRUE_MOST_ROOM
 };
 
 static const struct kind *kind_of(int slot) { return &KINDS[slot / 2]; }
 static unsigned number_of(int slot) { return kind_of(slot)->number + (slot % 2 ? PILINGRUE_KIND_MIRROR : 0); }
 static int full_length(const struct kind *k) { return (int)strlen(k->roles); }
-static int least_length(const struct kind *k) { return (int)(strchr(k->roles, 'S') - k->roles) + 1; }
+static int least_length(const struct kind *k) { return (int)strcspn(k->roles, "A"); }
+static int semi_place(const struct kind *k) { return (int)strcspn(k->roles, "S"); }
 
 /* A step: one surface, with all the coefficients that it may have, and the state before it. */
 struct input {
@@ -187,7 +189,8 @@ static double ordinary(char role) {
     case 'K': return below(3) ? between(-3, 3) : below(2) - 1;
     case 'S': return between(0, 20);
     case 'R': return between(-60, 60);
-    case 'A': return ldexp(between(-1, 1), -below(40));
+    case 'A':
+    case 'B': return ldexp(between(-1, 1), -below(40));
     case 'T': return between(0, 20);
     case 'O': return between(-5, 5);
     case 'Z': return between(-20, 0);
@@ -248,7 +251,7 @@ static struct input drawn(int slot) {
    at 1.5 of which a pass gives up, so that a root is needed to compare them. */
 static void fit(struct input *x) {
     static struct trace t;
-    int semi = least_length(kind_of(x->slot)) - 1;
+    int semi = semi_place(kind_of(x->slot));
     const double *r = t.buffer, *o = t.numbers + PILINGRUE_NUMBERS_ORIGIN, *d = t.numbers + PILINGRUE_NUMBERS_DIRECTION;
     double s, px, py;
     set(&t, x);

@@ -2,14 +2,14 @@
 use Prim.Native.Nat.{ℕ, zero, suc, _+_, _*_, _/_, _%_, _≤_, _<_}
 use native.Mathlib.Omega.{arith}
 use mathlib.Core.Path.{_≡_, refl, sym}
-use mathlib.Core.Bool.{Bool, true, false, _&&_, and-false}
+use mathlib.Core.Bool.{Bool, true, false, _&&_, _||_, and-false}
 use mathlib.Core.List.{List}
 use lib.ListN.{length, take}
 use lib.Seq.{getD-take, length-take-le}
 use lib.Dec.{eqb, leb}
 use borrow.Author.Tests.{eqb-true, leb-true, leb-false, le-leb, lt-leb}
 use Rattle.numbers.specs.Arithmetic.{if_then_else_}
-use Rattle.surfaces.specs.declared.surface.Kind.the-variants.{Conic, Even, Odd, Biconic, Toroid}
+use Rattle.surfaces.specs.declared.surface.Kind.the-variants.{Conic, Asphere, Biconic, Toroid}
 use Rattle.recipe.specs.Endian.{u16At, u64At, numberAt, numbersAt}
 use Rattle.recipe.specs.Record.{Read, bad, good, lengthAt, kindAt, endAt, slotAt, lengthFits, formedAt, longest}
 use Rattle.recipe.specs.Record.{shapedAt, semiSlot, kindOf, oddCount, evenCount, coefficientsAt, opticAt, recordAt}
@@ -65,13 +65,11 @@ module _ (b : List ℕ) (n : ℕ) where
     where
       by : (t : Bool) → eqb kind 3 ≡ t
           → (if eqb kind 1 then Conic (slotAt b at 2) (slotAt b at 3) else
-          if eqb kind 2 then Even (slotAt b at 2) (slotAt b at 3) else
-          if eqb kind 5 then Odd (slotAt b at 2) (slotAt b at 3) else
+          if eqb kind 2 || eqb kind 5 then Asphere (slotAt b at 2) (slotAt b at 3) (eqb kind 5) else
           if t then Biconic (slotAt b at 2) (slotAt b at 3) (slotAt b at 4) (slotAt (take n b) at 5) else
           Toroid (slotAt b at 2) (slotAt b at 3) (slotAt b at 4))
           ≡ (if eqb kind 1 then Conic (slotAt b at 2) (slotAt b at 3) else
-          if eqb kind 2 then Even (slotAt b at 2) (slotAt b at 3) else
-          if eqb kind 5 then Odd (slotAt b at 2) (slotAt b at 3) else
+          if eqb kind 2 || eqb kind 5 then Asphere (slotAt b at 2) (slotAt b at 3) (eqb kind 5) else
           if t then Biconic (slotAt b at 2) (slotAt b at 3) (slotAt b at 4) (slotAt b at 5) else
           Toroid (slotAt b at 2) (slotAt b at 3) (slotAt b at 4))
       by true e = let six = semi-biconic kind (eqb-true kind 3 e) in rw (slot-take at 5 (omega arith))

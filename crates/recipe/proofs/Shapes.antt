@@ -2,7 +2,8 @@
 -- Assumes nothing.
 use Prim.Native.Nat.{ℕ, _+_, _-_, _*_, _/_, _%_, _≤_}
 use mathlib.Core.Path.{_≡_, refl}
-use mathlib.Core.Bool.{Bool, true, false, _&&_}
+use mathlib.Core.Logic.{_⊎_, inl, inr, ⊎-elim}
+use mathlib.Core.Bool.{Bool, true, false, _&&_, _||_}
 use mathlib.Core.List.{List}
 use native.Mathlib.Omega.{arith}
 use lib.ListN.{length}
@@ -58,37 +59,46 @@ fitting : (kind len : ℕ) → 42 ≤ len → len ≤ 170 → len % 8 ≡ 2 → 
 fitting kind len l m e s n =
     record { least = l; most = m; numbers = omega arith; semi = s; even = n .0; odd = n .1; terms = n .2 }
 
+-- one of two, each a kind and its length
+last-two : (kind len i m j n : ℕ) → ((eqb kind i && eqb len m) || (eqb kind j && eqb len n)) ≡ true
+    → ((kind ≡ i) × (len ≡ m)) ⊎ ((kind ≡ j) × (len ≡ n))
+last-two kind len i m j n h = by (eqb kind i && eqb len m) refl h
+  where
+    told : (i m : ℕ) → (eqb kind i && eqb len m) ≡ true → (kind ≡ i) × (len ≡ m)
+    told i m e = let p = both (eqb kind i) _ e in (eqb-true kind i (p .0), eqb-true len m (p .1))
+
+    by : (t : Bool) → (eqb kind i && eqb len m) ≡ t → (t || (eqb kind j && eqb len n)) ≡ true
+        → ((kind ≡ i) × (len ≡ m)) ⊎ ((kind ≡ j) × (len ≡ n))
+    by true e h = inl (told i m e)
+    by false e h = inr (told j n h)
+
 pub fits : (kind len : ℕ) → lengthFits kind len ≡ true → Fitting kind len
 unfolding lengthFits semiSlot evenCount oddCount
-fits kind len = by (eqb kind 1) refl (eqb kind 2) refl (eqb kind 3) refl (eqb kind 4) refl
+fits kind len = by (eqb kind 1) refl (eqb kind 2) refl (eqb kind 3) refl
   where
     by : (t : Bool) → eqb kind 1 ≡ t → (u : Bool) → eqb kind 2 ≡ u → (v : Bool) → eqb kind 3 ≡ v
-        → (w : Bool) → eqb kind 4 ≡ w
         → (if t then eqb len 42 else
         if u then leb 42 len && leb len 106 && eqb (len % 8) 2 else
-        if v then eqb len 58 else
-        if w then eqb len 50 else eqb kind 5 && eqb len 170) ≡ true
+        if v then eqb len 58 else (eqb kind 4 && eqb len 50) || (eqb kind 5 && eqb len 170)) ≡ true
         → Fitting kind len
-    by true t u _ v _ w _ h =
+    by true t u _ v _ h =
         rw (eqb-true kind 1 t, eqb-true len 42 h)
         (fitting 1 42 (lit≤ tt) (lit≤ tt) refl (lit≤ tt) (lit≤ tt, lit≤ tt, lit≤ tt))
-    by false _ true u v _ w _ h =
+    by false _ true u v _ h =
         let p = both (leb 42 len && leb len 106) _ h in
         let q = both (leb 42 len) _ (p .0) in
         let l = leb-true 42 len (q .0) in
         let m = leb-true len 106 (q .1) in
         let e = eqb-true (len % 8) 2 (p .1) in
         rw (eqb-true kind 2 u) (fitting 2 len l (omega arith) e l (omega arith, omega arith, omega arith))
-    by false _ false _ true v w _ h =
+    by false _ false _ true v h =
         rw (eqb-true kind 3 v, eqb-true len 58 h)
         (fitting 3 58 (lit≤ tt) (lit≤ tt) refl (lit≤ tt) (lit≤ tt, lit≤ tt, lit≤ tt))
-    by false _ false _ false _ true w h =
-        rw (eqb-true kind 4 w, eqb-true len 50 h)
-        (fitting 4 50 (lit≤ tt) (lit≤ tt) refl (lit≤ tt) (lit≤ tt, lit≤ tt, lit≤ tt))
-    by false _ false _ false _ false _ h =
-        let p = both (eqb kind 5) _ h in
-        rw (eqb-true kind 5 (p .0), eqb-true len 170 (p .1))
-        (fitting 5 170 (lit≤ tt) (lit≤ tt) refl (lit≤ tt) (lit≤ tt, lit≤ tt, lit≤ tt))
+    by false _ false _ false _ h =
+        ⊎-elim
+        (λ p. rw (p .0, p .1) (fitting 4 50 (lit≤ tt) (lit≤ tt) refl (lit≤ tt) (lit≤ tt, lit≤ tt, lit≤ tt)))
+        (λ p. rw (p .0, p .1) (fitting 5 170 (lit≤ tt) (lit≤ tt) refl (lit≤ tt) (lit≤ tt, lit≤ tt, lit≤ tt)))
+        (last-two kind len 4 50 5 170 h)
 
 pub formed : (b : List ℕ) (at : ℕ) {len kind : ℕ} → formedAt b at ≡ true → len ≡ lengthAt b at → kind ≡ kindAt b at
     → Formed (length b) at (kind % 256) len

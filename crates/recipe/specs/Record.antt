@@ -1,7 +1,7 @@
 -- The record at a place of a recipe: its shape, its surface, and why it is refused. Definitions only.
 use Prim.Native.Nat.{ℕ, _+_, _-_, _*_, _/_, _%_}
 use mathlib.Core.List.{List, _++_}
-use mathlib.Core.Bool.{Bool, not, false, _&&_}
+use mathlib.Core.Bool.{Bool, not, false, _&&_, _||_}
 use lib.ListN.{length, replicate}
 use lib.Dec.{eqb, leb}
 use lib.Ieee.{Float}
@@ -9,7 +9,7 @@ use Rattle.numbers.specs.Arithmetic.{_<₆₄_, _≤₆₄_, if_then_else_, 0f}
 use Rattle.surfaces.specs.Types.{polynomial, noPolynomial, everyFinite}
 use Rattle.surfaces.specs.declared.types.Coefficients.{Coefficients}
 use Rattle.surfaces.specs.declared.surface.Kind.{Kind}
-use Rattle.surfaces.specs.declared.surface.Kind.the-variants.{Conic, Even, Odd, Biconic, Toroid}
+use Rattle.surfaces.specs.declared.surface.Kind.the-variants.{Conic, Asphere, Biconic, Toroid}
 use Rattle.recipe.specs.declared.record.Optic.{Optic}
 use Rattle.recipe.specs.declared.record.ReadRecord.{ReadRecord}
 use Rattle.recipe.specs.Endian.{u16At, numberAt, numbersAt}
@@ -35,8 +35,7 @@ lengthFits kind len =
     if eqb kind 1 then eqb len 42 else
     if eqb kind 2 then leb 42 len && leb len 106 && eqb (len % 8) 2 else
     if eqb kind 3 then eqb len 58 else
-    if eqb kind 4 then eqb len 50 else
-    eqb kind 5 && eqb len 170
+    (eqb kind 4 && eqb len 50) || (eqb kind 5 && eqb len 170)
 
 -- its own shape: not cut, and a kind, or the kind + 256 of its mirror, of a length that it has
 unfoldable pub formedAt : List ℕ → ℕ → Bool
@@ -63,8 +62,7 @@ semiSlot kind =
 unfoldable pub kindOf : ℕ → (ℕ → Float) → Kind
 kindOf kind slot =
     if eqb kind 1 then Conic (slot 2) (slot 3) else
-    if eqb kind 2 then Even (slot 2) (slot 3) else
-    if eqb kind 5 then Odd (slot 2) (slot 3) else
+    if eqb kind 2 || eqb kind 5 then Asphere (slot 2) (slot 3) (eqb kind 5) else
     if eqb kind 3 then Biconic (slot 2) (slot 3) (slot 4) (slot 5) else
     Toroid (slot 2) (slot 3) (slot 4)
 

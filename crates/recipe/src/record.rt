@@ -14,6 +14,7 @@ use surfaces::Kind;
 use surfaces::MOST_COEFFICIENTS;
 use surfaces::Polynomial;
 use surfaces::Surface;
+use surfaces::no_coefficients;
 use surfaces::no_polynomial;
 
 // The table's number for what is no record (SCOPE T1).
@@ -116,10 +117,8 @@ fn length_fits(kind: usize, len: usize) -> bool
     if kind == KIND_BICONIC {
         return len == LENGTH_BICONIC;
     }
-    if kind == KIND_TOROID {
-        return len == LENGTH_TOROID;
-    }
-    (kind == KIND_ODD_ASPHERE) & (len == LENGTH_ODD_ASPHERE)
+    ((kind == KIND_TOROID) & (len == LENGTH_TOROID))
+        | ((kind == KIND_ODD_ASPHERE) & (len == LENGTH_ODD_ASPHERE))
 }
 
 // Whether a record is whole, and its length one that its kind has.
@@ -171,11 +170,12 @@ pub(crate) fn kind_at(s: &[u8], at: usize, kind: usize) -> Kind
     if kind == KIND_CONIC {
         return Kind::Conic { c: a, k: b };
     }
-    if kind == KIND_EVEN_ASPHERE {
-        return Kind::Even { c: a, k: b };
-    }
-    if kind == KIND_ODD_ASPHERE {
-        return Kind::Odd { c: a, k: b };
+    if (kind == KIND_EVEN_ASPHERE) | (kind == KIND_ODD_ASPHERE) {
+        return Kind::Asphere {
+            c: a,
+            k: b,
+            odd: kind == KIND_ODD_ASPHERE,
+        };
     }
     let c = slot(s, at, THIRD);
     if kind == KIND_BICONIC {
@@ -193,24 +193,17 @@ pub(crate) fn kind_at(s: &[u8], at: usize, kind: usize) -> Kind
     }
 }
 
-fn odd_count(kind: usize) -> usize
-    ensures { λ r. ⌜ r ≡ oddCount kind ⌝ }
-{
-    if kind == KIND_ODD_ASPHERE {
-        MOST_COEFFICIENTS
-    } else {
-        0
-    }
-}
-
 fn even_count(kind: usize, len: usize) -> usize
     requires { ⌜ 42 ≤ len ⌝ }
     ensures { λ r. ⌜ r ≡ evenCount kind len ⌝ }
 {
     if kind == KIND_EVEN_ASPHERE {
-        len / NUMBER_BYTES - COEFFICIENTS
+        return len / NUMBER_BYTES - COEFFICIENTS;
+    }
+    if kind == KIND_ODD_ASPHERE {
+        MOST_COEFFICIENTS
     } else {
-        odd_count(kind)
+        0
     }
 }
 
@@ -227,6 +220,18 @@ fn coefficients_at(s: &[u8], at: usize, count: usize) -> Coefficients
     Coefficients { count, values }
 }
 
+// Of an odd asphere; the other kinds have none.
+fn odd_coefficients_at(s: &[u8], at: usize, kind: usize) -> Coefficients
+    requires { ⌜ at + 8 * oddCount kind ≤ length (now s) ⌝ }
+    ensures { λ r. ⌜ r ≡ coefficientsAt (now (s .entry)) at (oddCount kind) ⌝ }
+{
+    if kind == KIND_ODD_ASPHERE {
+        coefficients_at(s, at, MOST_COEFFICIENTS)
+    } else {
+        no_coefficients()
+    }
+}
+
 fn optic_at(s: &[u8], at: usize) -> Optic
     requires { ⌜ shapedAt (now s) at ≡ true ⌝ }
     ensures { λ r. ⌜ r ≡ opticAt (now (s .entry)) at ⌝ }
@@ -238,7 +243,7 @@ fn optic_at(s: &[u8], at: usize) -> Optic
     let first = at + COEFFICIENTS_PLACE;
     let polynomial = Polynomial {
         even: coefficients_at(s, first, even),
-        odd: coefficients_at(s, first + NUMBER_BYTES * even, odd_count(kind)),
+        odd: odd_coefficients_at(s, first + NUMBER_BYTES * even, kind),
     };
     let surface = Surface {
         vertex: slot(s, at, VERTEX),

@@ -14,7 +14,7 @@ use Rattle.surfaces.specs.Surface.{ChainEnds}
 use Rattle.surfaces.specs.declared.types.Ray.{Ray}
 use Rattle.surfaces.specs.declared.types.Landing.{Landing}
 use Rattle.surfaces.specs.declared.surface.Kind.{Kind}
-use Rattle.surfaces.specs.declared.surface.Kind.the-variants.{Conic, Even, Odd, Biconic, Toroid}
+use Rattle.surfaces.specs.declared.surface.Kind.the-variants.{Conic, Asphere, Biconic, Toroid}
 use Rattle.surfaces.specs.declared.surface.Surface.{Surface}
 use Rattle.numbers.proofs.Choice.{either}
 use Rattle.surfaces.proofs.Ways.{kind-limit}
@@ -25,8 +25,8 @@ use Rattle.surfaces.proofs.Stops.{at-once}
 pub limit-bounds : (k : Kind) → (0 < limitOf k) × (limitOf k ≤ 35)
 unfolding limitOf
 limit-bounds (Conic c k) = (lit≤ tt, lit≤ tt)
-limit-bounds (Even c k) = (lit≤ tt, lit≤ tt)
-limit-bounds (Odd c k) = (lit≤ tt, lit≤ tt)
+limit-bounds (Asphere c k false) = (lit≤ tt, lit≤ tt)
+limit-bounds (Asphere c k true) = (lit≤ tt, lit≤ tt)
 limit-bounds (Biconic cx kx cy ky) = (lit≤ tt, lit≤ tt)
 limit-bounds (Toroid rx cy ky) = (lit≤ tt, lit≤ tt)
 

@@ -42,7 +42,7 @@ use Rattle.surfaces.specs.declared.refusal.Refusal.the-variants.{TotalIn
 use Rattle.surfaces.specs.declared.conic.ConicSurface.{ConicSurface}
 use Rattle.surfaces.specs.declared.biconic.BiconicSurface.{BiconicSurface}
 use Rattle.surfaces.specs.declared.surface.Kind.{Kind}
-use Rattle.surfaces.specs.declared.surface.Kind.the-variants.{Conic, Even, Odd, Biconic, Toroid}
+use Rattle.surfaces.specs.declared.surface.Kind.the-variants.{Conic, Asphere, Biconic, Toroid}
 use Rattle.surfaces.specs.declared.surface.Surface.{Surface}
 use Rattle.surfaces.specs.declared.surface.Boundary.{Boundary}
 use Rattle.surfaces.specs.declared.surface.Boundary.the-variants.{Mirror, Media}
@@ -153,8 +153,8 @@ toroid-slopes rx cy ky x y = within (search (either-tells, edge-root))
 normal : (k : Kind) (s : Surface) (p : Vec3) → Within (1 ∷ 2 ∷ 4 ∷ 5 ∷ []) (normalBy k s p .line)
 unfolding normalAt evenNormal evenFacing oddNormal biconicNormal toroidNormal normalOf oneOf
 normal (Conic c k) s p = within (search (either-tells, conic-normal))
-normal (Even c k) s p = within (search (either-tells, even-slope))
-normal (Odd c k) s p = within (search (either-tells, odd-slopes))
+normal (Asphere c k false) s p = within (search (either-tells, even-slope))
+normal (Asphere c k true) s p = within (search (either-tells, odd-slopes))
 normal (Biconic cx kx cy ky) s p = within (search (either-tells, biconic-slopes))
 normal (Toroid rx cy ky) s p = within (search (either-tells, toroid-slopes))
 

@@ -20,7 +20,7 @@ use Rattle.surfaces.specs.declared.types.Vec3.{Vec3}
 use Rattle.surfaces.specs.declared.types.Coefficients.{Coefficients}
 use Rattle.surfaces.specs.declared.types.Polynomial.{Polynomial}
 use Rattle.surfaces.specs.declared.newton.Profile.{Profile}
-use Rattle.surfaces.specs.declared.newton.Profile.the-variants.{Even, Odd, Biconic, Toroid}
+use Rattle.surfaces.specs.declared.newton.Profile.the-variants.{Asphere, Biconic, Toroid}
 
 -- what follows an answer that itself followed one
 follows : {A B C : Type 0} (x : B) (y : C) (t : Told A) (f : A → Told B) (g : B → Told C) →
@@ -127,7 +127,7 @@ toroid-sag rx cy ky x y =
 pub sag-there : (q : Profile) (a : Polynomial) (semi r : Float) (p : Vec3) →
     shapeOf q a semi .sag r p ≡ sagOf (depthOf q a r p)
 unfolding depthOf
-sag-there (Even c k) a semi r p = sym (even-sag c k (a .even) r)
-sag-there (Odd c k) a semi r p = sym (odd-sag c k a r)
+sag-there (Asphere c k false) a semi r p = sym (even-sag c k (a .even) r)
+sag-there (Asphere c k true) a semi r p = sym (odd-sag c k a r)
 sag-there (Biconic cx kx cy ky) a semi r p = sym (biconic-sag cx kx cy ky (p .x) (p .y))
 sag-there (Toroid rx cy ky) a semi r p = sym (toroid-sag rx cy ky (p .x) (p .y))

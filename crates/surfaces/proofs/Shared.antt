@@ -27,7 +27,7 @@ use Rattle.surfaces.specs.declared.types.Meridians.{Meridians}
 use Rattle.surfaces.specs.declared.types.Coefficients.{Coefficients}
 use Rattle.surfaces.specs.declared.types.Polynomial.{Polynomial}
 use Rattle.surfaces.specs.declared.newton.Profile.{Profile}
-use Rattle.surfaces.specs.declared.newton.Profile.the-variants.{Even, Odd, Biconic, Toroid}
+use Rattle.surfaces.specs.declared.newton.Profile.the-variants.{Asphere, Biconic, Toroid}
 
 -- an answer that came after another: that was an answer too, so that whatever else follows it has its value
 record Followed {A B : Type 0} (t : Told A) (f : A → Told B) (v : B) : Type 1 where
@@ -131,21 +131,21 @@ module _ (z s w b : Float) where
   pub shared : (q : Profile) (a : Polynomial) (semi r : Float) (p : Vec3) →
       depthOf q a r p ≡ gives (depths z s w b) → shapeOf q a semi .slopes r p ≡ slopesFrom q a p s w b
   unfolding depthOf slopesFrom
-  shared (Even c k) a semi r p h = even c k (a .even) (p .x) (p .y) r h
-  shared (Odd c k) a semi r p h = odd c k a (p .x) (p .y) r h
+  shared (Asphere c k false) a semi r p h = even c k (a .even) (p .x) (p .y) r h
+  shared (Asphere c k true) a semi r p h = odd c k a (p .x) (p .y) r h
   shared (Biconic cx kx cy ky) a semi r p h = biconic cx kx cy ky (p .x) (p .y) h
   shared (Toroid rx cy ky) a semi r p h = toroid rx cy ky (p .x) (p .y) h
 
 pub semi-of : (q : Profile) (a : Polynomial) (semi : Float) → shapeOf q a semi .semi ≡ semi
-semi-of (Even c k) a semi = refl
-semi-of (Odd c k) a semi = refl
+semi-of (Asphere c k false) a semi = refl
+semi-of (Asphere c k true) a semi = refl
 semi-of (Biconic cx kx cy ky) a semi = refl
 semi-of (Toroid rx cy ky) a semi = refl
 
 -- the second exit's check and the limit go by the kind alone
 pub kind-alone : (q : Profile) (a b : Polynomial) (s t : Float) →
     (shapeOf q a s .checksLast ≡ shapeOf q b t .checksLast) × (shapeOf q a s .limit ≡ shapeOf q b t .limit)
-kind-alone (Even c k) a b s t = (refl, refl)
-kind-alone (Odd c k) a b s t = (refl, refl)
+kind-alone (Asphere c k false) a b s t = (refl, refl)
+kind-alone (Asphere c k true) a b s t = (refl, refl)
 kind-alone (Biconic cx kx cy ky) a b s t = (refl, refl)
 kind-alone (Toroid rx cy ky) a b s t = (refl, refl)

@@ -54,7 +54,7 @@ use Rattle.surfaces.specs.declared.asphere.OddAsphere.{OddAsphere}
 use Rattle.surfaces.specs.declared.biconic.BiconicSurface.{BiconicSurface}
 use Rattle.surfaces.specs.declared.biconic.ToroidalSurface.{ToroidalSurface}
 use Rattle.surfaces.specs.declared.surface.Kind.{Kind}
-use Rattle.surfaces.specs.declared.surface.Kind.the-variants.{Even, Odd, Biconic, Toroid}
+use Rattle.surfaces.specs.declared.surface.Kind.the-variants.{Asphere, Biconic, Toroid}
 use Rattle.surfaces.specs.declared.surface.Surface.{Surface}
 use Rattle.surfaces.specs.declared.surface.Boundary.the-variants.{Media}
 use Rattle.surfaces.specs.declared.surface.Leaving.{Leaving}
@@ -188,14 +188,14 @@ odds l semi = record { curvature = 0f; conic = 0f; semi = semi; even = noCoeffic
 
 abbrev pub cone : List Float → Float → Surface
 cone l semi =
-    record { vertex = 0f; semi = semi; kind = Odd 0f 0f; polynomial = polynomial noCoefficients (these l) }
+    record { vertex = 0f; semi = semi; kind = Asphere 0f 0f true; polynomial = polynomial noCoefficients (these l) }
 
 abbrev pub flat : Float → Surface
-flat semi = surface 0f semi (Even 0f 0f) noCoefficients
+flat semi = surface 0f semi (Asphere 0f 0f false) noCoefficients
 
 -- an even asphere c 0 with the coefficient 1/8, and a ray to it from (4, 0, -1) along z
 abbrev pub bowl : Float → Surface
-bowl semi = surface 0f semi (Even 0f 0f) (these (1 over 8 ∷ []))
+bowl semi = surface 0f semi (Asphere 0f 0f false) (these (1 over 8 ∷ []))
 
 abbrev pub beside : Ray
 beside = ray (vec 4f 0f (neg 1f)) z
@@ -331,12 +331,12 @@ cases =
     (turn (turnAnswer (flat (whole 10)) (vec (whole (10 ^ 200)) 0f (whole 1000)) far-out (Media 1f 1f))
     ⇒ turn (refused noLeaving (plain 2))) ∷
     -- the last pass, the 25th or the 35th, ends in a miss if in nothing else
-    (end (surfaceEnd (surface 0f (whole 5) (Even 0f 0f) (ones 1)) to-and-fro) ⇒ end (ended (noCrossing 6) 25)) ∷
-    (end (surfaceEnd (surface 0f (whole 5) (Odd 0f 0f) (ones 1)) to-and-fro) ⇒ end (ended (noCrossing 6) 25)) ∷
+    (end (surfaceEnd (surface 0f (whole 5) (Asphere 0f 0f false) (ones 1)) to-and-fro) ⇒ end (ended (noCrossing 6) 25)) ∷
+    (end (surfaceEnd (surface 0f (whole 5) (Asphere 0f 0f true) (ones 1)) to-and-fro) ⇒ end (ended (noCrossing 6) 25)) ∷
     (end (surfaceEnd (surface 0f (whole 5) (Biconic 2f (neg 1f) 0f 0f) noCoefficients) to-and-fro)
     ⇒ end (ended (noCrossing 6) 35)) ∷
     -- and it may hit: on a ray that touches, x - 64 halves 24 times from -32
-    (end (surfaceEnd (surface 0f (whole 100) (Even 0f 0f) (ones 1))
+    (end (surfaceEnd (surface 0f (whole 100) (Asphere 0f 0f false) (ones 1))
     (ray (vec (whole 32) 0f 0f) (vec 1f 0f (whole 128)))) ⇒
     end (ended
     (gives (landing ((2 ^ 24 - 1) over 2 ^ 19) (vec ((2 ^ 25 - 1) over 2 ^ 19) 0f ((2 ^ 24 - 1) over 2 ^ 12)))) 25)) ∷
@@ -360,7 +360,7 @@ cases =
     -- its sag takes NaN, and so it is missed after all its passes; the others are missed in the first
     (end (surfaceEnd (surface (whole (10 ^ 308)) (whole 10) (Toroid (whole 5) 0f 0f) noCoefficients)
     (on-axis (neg (whole (10 ^ 308))))) ⇒ end (ended (noCrossing 6) 35)) ∷
-    (end (surfaceEnd (surface (whole (10 ^ 308)) (whole 10) (Even 0f 0f) noCoefficients)
+    (end (surfaceEnd (surface (whole (10 ^ 308)) (whole 10) (Asphere 0f 0f false) noCoefficients)
     (on-axis (neg (whole (10 ^ 308))))) ⇒ end (ended (noCrossing 6) 1)) ∷
     (end (surfaceEnd (surface (whole (10 ^ 308)) (whole 10) (Biconic 0f 0f 0f 0f) noCoefficients)
     (on-axis (neg (whole (10 ^ 308))))) ⇒ end (ended (noCrossing 6) 1)) ∷

@@ -36,7 +36,7 @@ use Rattle.surfaces.specs.declared.newton.Profile.{Profile}
 use Rattle.surfaces.specs.declared.newton.Profile.the-variants as profile
 use Rattle.surfaces.specs.declared.newton.End.{End}
 use Rattle.surfaces.specs.declared.surface.Kind.{Kind}
-use Rattle.surfaces.specs.declared.surface.Kind.the-variants.{Conic, Even, Odd, Biconic, Toroid}
+use Rattle.surfaces.specs.declared.surface.Kind.the-variants.{Conic, Asphere, Biconic, Toroid}
 use Rattle.surfaces.specs.declared.surface.Family.{Family}
 use Rattle.surfaces.specs.declared.surface.Family.the-variants as family
 use Rattle.surfaces.specs.declared.surface.Surface.{Surface}
@@ -181,20 +181,20 @@ toroidSlopesFrom rx cy ky x y term s b =
 
 -- newton: what a profile brings, and its sag and slopes at a point whose distance from the axis is r
 abbrev pub shapeOf : Profile → Polynomial → Float → Shape
-shapeOf (profile.Even c k) a semi = evenShape c k (a .even) semi
-shapeOf (profile.Odd c k) a semi = oddShape c k a semi
+shapeOf (profile.Asphere c k false) a semi = evenShape c k (a .even) semi
+shapeOf (profile.Asphere c k true) a semi = oddShape c k a semi
 shapeOf (profile.Biconic cx kx cy ky) a semi = biconicShape cx kx cy ky semi
 shapeOf (profile.Toroid rx cy ky) a semi = toroidShape rx cy ky semi
 
 unfoldable pub depthOf : Profile → Polynomial → Float → Vec3 → Told Depths
-depthOf (profile.Even c k) a r p = evenDepth c k (a .even) r
-depthOf (profile.Odd c k) a r p = oddDepth c k a r
+depthOf (profile.Asphere c k false) a r p = evenDepth c k (a .even) r
+depthOf (profile.Asphere c k true) a r p = oddDepth c k a r
 depthOf (profile.Biconic cx kx cy ky) a r p = biconicDepth cx kx cy ky (p .x) (p .y)
 depthOf (profile.Toroid rx cy ky) a r p = toroidDepth rx cy ky (p .x) (p .y)
 
 unfoldable pub slopesFrom : Profile → Polynomial → Vec3 → Float → Float → Float → Told Meridians
-slopesFrom (profile.Even c k) a p s part base = evenSlopesFrom c (a .even) (p .x) (p .y) part s
-slopesFrom (profile.Odd c k) a p s part base = gives (oddSlopesFrom c a (p .x) (p .y) part s)
+slopesFrom (profile.Asphere c k false) a p s part base = evenSlopesFrom c (a .even) (p .x) (p .y) part s
+slopesFrom (profile.Asphere c k true) a p s part base = gives (oddSlopesFrom c a (p .x) (p .y) part s)
 slopesFrom (profile.Biconic cx kx cy ky) a p s part base = biconicSlopesFrom cx kx cy ky (p .x) (p .y) part s
 slopesFrom (profile.Toroid rx cy ky) a p s part base = toroidSlopesFrom rx cy ky (p .x) (p .y) part s base
 
@@ -204,8 +204,7 @@ toldEnd e = ended (toldCrossing (e .crossing)) (e .passes)
 -- surface: a conic, or a profile
 abbrev pub familyOf : Kind → Family
 familyOf (Conic c k) = family.Conic c k
-familyOf (Even c k) = family.Newton (profile.Even c k)
-familyOf (Odd c k) = family.Newton (profile.Odd c k)
+familyOf (Asphere c k odd) = family.Newton (profile.Asphere c k odd)
 familyOf (Biconic cx kx cy ky) = family.Newton (profile.Biconic cx kx cy ky)
 familyOf (Toroid rx cy ky) = family.Newton (profile.Toroid rx cy ky)
 

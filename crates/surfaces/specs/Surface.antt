@@ -1,7 +1,7 @@
 -- The kinds of surfaces together, for a trace: one pass, what ends a surface, and how a ray goes on. Definitions only.
 use Prim.Native.Nat.{ℕ, zero, suc, _≤_}
 use mathlib.Core.Path.{_≡_}
-use mathlib.Core.Bool.{false}
+use mathlib.Core.Bool.{true, false}
 use lib.Ieee.{Float}
 use Rattle.numbers.specs.Arithmetic.{_<₆₄_, if_then_else_, 0f}
 use Rattle.surfaces.specs.Types.{dotOf, noPolynomial}
@@ -16,7 +16,7 @@ use Rattle.surfaces.specs.declared.types.Ray.{Ray}
 use Rattle.surfaces.specs.declared.types.Landing.{Landing}
 use Rattle.surfaces.specs.declared.conic.ConicSurface.{ConicSurface}
 use Rattle.surfaces.specs.declared.surface.Kind.{Kind}
-use Rattle.surfaces.specs.declared.surface.Kind.the-variants.{Conic, Even, Odd, Biconic, Toroid}
+use Rattle.surfaces.specs.declared.surface.Kind.the-variants.{Conic, Asphere, Biconic, Toroid}
 use Rattle.surfaces.specs.declared.surface.Surface.{Surface}
 use Rattle.surfaces.specs.declared.surface.Boundary.{Boundary}
 use Rattle.surfaces.specs.declared.surface.Boundary.the-variants.{Mirror, Media}
@@ -32,8 +32,8 @@ pub data Way : Type 0 where
 
 abbrev pub wayOf : Kind → Surface → Way
 wayOf (Conic c k) s = whole (conicOf s c k)
-wayOf (Even c k) s = passes (evenShape c k (s .polynomial .even) (s .semi))
-wayOf (Odd c k) s = passes (oddShape c k (s .polynomial) (s .semi))
+wayOf (Asphere c k false) s = passes (evenShape c k (s .polynomial .even) (s .semi))
+wayOf (Asphere c k true) s = passes (oddShape c k (s .polynomial) (s .semi))
 wayOf (Biconic cx kx cy ky) s = passes (biconicShape cx kx cy ky (s .semi))
 wayOf (Toroid rx cy ky) s = passes (toroidShape rx cy ky (s .semi))
 
@@ -80,8 +80,8 @@ pub record ChainEnds (s : Surface) (ray : Ray) (t : Float) : Type 0 where
 
 abbrev pub normalBy : Kind → Surface → Vec3 → Told Vec3
 normalBy (Conic c k) s p = normalAt p (conicOf s c k)
-normalBy (Even c k) s p = evenNormal c k (s .polynomial .even) (p .x) (p .y)
-normalBy (Odd c k) s p = oddNormal c k (s .polynomial) (p .x) (p .y)
+normalBy (Asphere c k false) s p = evenNormal c k (s .polynomial .even) (p .x) (p .y)
+normalBy (Asphere c k true) s p = oddNormal c k (s .polynomial) (p .x) (p .y)
 normalBy (Biconic cx kx cy ky) s p = biconicNormal cx kx cy ky (p .x) (p .y)
 normalBy (Toroid rx cy ky) s p = toroidNormal rx cy ky (p .x) (p .y)
 

@@ -221,9 +221,10 @@ impl EvenAsphere {
             even,
             odd: no_coefficients(),
         };
-        let profile = Profile::Even {
+        let profile = Profile::Asphere {
             c: self.curvature,
             k: self.conic,
+            odd: false,
         };
         let end = newton(profile, a, self.semi, vertex, ray);
         let crossing = end.crossing;
@@ -357,9 +358,10 @@ impl OddAsphere {
         if !can_be_met(self.is_good(), self.semi, ray, vertex) {
             return Crossing::Refused(Refusal::InvalidParameter);
         }
-        let profile = Profile::Odd {
+        let profile = Profile::Asphere {
             c: self.curvature,
             k: self.conic,
+            odd: true,
         };
         let end = newton(profile, self.powers(), self.semi, vertex, ray);
         let crossing = end.crossing;

@@ -68,6 +68,7 @@ pub use types::Polynomial;
 pub use types::Ray;
 pub use types::Vec3;
 pub use types::all_finite;
+pub use types::no_coefficients;
 pub use types::no_polynomial;
 pub use types::no_ray;
 pub use types::ray_finite;

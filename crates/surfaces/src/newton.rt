@@ -45,8 +45,7 @@ pub const STEPS_TOROID: u16 = 35;
 
 // The kinds that Newton's method meets.
 pub(crate) enum Profile {
-    Even { c: f64, k: f64 },
-    Odd { c: f64, k: f64 },
+    Asphere { c: f64, k: f64, odd: bool },
     Biconic { cx: f64, kx: f64, cy: f64, ky: f64 },
     Toroid { rx: f64, cy: f64, ky: f64 },
 }
@@ -70,8 +69,13 @@ fn depth(q: Profile, a: Polynomial, p: Vec3, sq: f64) -> Depth
 {
     let even = a.even;
     match q {
-        Profile::Even { c, k } => even_depth(c, k, even, sqrt(sq), sq),
-        Profile::Odd { c, k } => odd_depth(c, k, a, sqrt(sq), sq),
+        Profile::Asphere { c, k, odd } => {
+            if odd {
+                odd_depth(c, k, a, sqrt(sq), sq)
+            } else {
+                even_depth(c, k, even, sqrt(sq), sq)
+            }
+        }
         Profile::Biconic { cx, kx, cy, ky } => biconic_depth(cx, kx, cy, ky, p.x, p.y),
         Profile::Toroid { rx, cy, ky } => toroid_depth(rx, cy, ky, p.x, p.y),
     }
@@ -83,8 +87,13 @@ fn slopes_from(q: Profile, a: Polynomial, p: Vec3, root: f64, part: f64, base: f
 {
     let even = a.even;
     match q {
-        Profile::Even { c, k: _ } => even_slopes_from(c, even, p.x, p.y, part, root),
-        Profile::Odd { c, k: _ } => Pair::Given(odd_slopes_from(c, a, p.x, p.y, part, root)),
+        Profile::Asphere { c, k: _, odd } => {
+            if odd {
+                Pair::Given(odd_slopes_from(c, a, p.x, p.y, part, root))
+            } else {
+                even_slopes_from(c, even, p.x, p.y, part, root)
+            }
+        }
         Profile::Biconic { cx, kx, cy, ky } => biconic_slopes_from(
             cx,
             kx,
@@ -113,8 +122,7 @@ fn checks_last(q: Profile) -> bool
     ensures { λ b. ⌜ b ≡ shapeOf q noPolynomial 0f .checksLast ⌝ }
 {
     match q {
-        Profile::Even { c: _, k: _ } => false,
-        Profile::Odd { c: _, k: _ } => true,
+        Profile::Asphere { c: _, k: _, odd } => odd,
         Profile::Biconic {
             cx: _,
             kx: _,
@@ -133,8 +141,13 @@ pub(crate) fn profile_limit(q: Profile) -> u16
     ensures { λ n. ⌜ n ≡ shapeOf q noPolynomial 0f .limit ⌝ }
 {
     match q {
-        Profile::Even { c: _, k: _ } => STEPS_EVEN_ASPHERE,
-        Profile::Odd { c: _, k: _ } => STEPS_ODD_ASPHERE,
+        Profile::Asphere { c: _, k: _, odd } => {
+            if odd {
+                STEPS_ODD_ASPHERE
+            } else {
+                STEPS_EVEN_ASPHERE
+            }
+        }
         Profile::Biconic {
             cx: _,
             kx: _,

@@ -27,12 +27,11 @@ use crate::types::dot;
 // A conic is met in one step.
 pub const STEPS_CONIC: u16 = 1;
 
-// A conic has c and k; an asphere c and k, with its polynomial beside; a biconic cx, kx, cy and ky; a toroid rx, cy and
-// ky.
+// A conic has c and k; an asphere c and k, with its polynomial beside, and is an odd one or an even one; a biconic cx,
+// kx, cy and ky; a toroid rx, cy and ky. A fifth case would make each match a jump by a table, which costs every step.
 pub enum Kind {
     Conic { c: f64, k: f64 },
-    Even { c: f64, k: f64 },
-    Odd { c: f64, k: f64 },
+    Asphere { c: f64, k: f64, odd: bool },
     Biconic { cx: f64, kx: f64, cy: f64, ky: f64 },
     Toroid { rx: f64, cy: f64, ky: f64 },
 }
@@ -66,8 +65,7 @@ fn family_of(kind: Kind) -> Family
 {
     match kind {
         Kind::Conic { c, k } => Family::Conic { c, k },
-        Kind::Even { c, k } => Family::Newton(Profile::Even { c, k }),
-        Kind::Odd { c, k } => Family::Newton(Profile::Odd { c, k }),
+        Kind::Asphere { c, k, odd } => Family::Newton(Profile::Asphere { c, k, odd }),
         Kind::Biconic { cx, kx, cy, ky } => Family::Newton(Profile::Biconic { cx, kx, cy, ky }),
         Kind::Toroid { rx, cy, ky } => Family::Newton(Profile::Toroid { rx, cy, ky }),
     }
@@ -121,8 +119,13 @@ fn normal(s: Surface, p: Vec3) -> Direction
     let kind = s.kind;
     match kind {
         Kind::Conic { c, k } => normal_at(p, conic_of(s, c, k)),
-        Kind::Even { c, k } => raw_even_normal(c, k, even, p.x, p.y),
-        Kind::Odd { c, k } => raw_odd_normal(c, k, a, p.x, p.y),
+        Kind::Asphere { c, k, odd } => {
+            if odd {
+                raw_odd_normal(c, k, a, p.x, p.y)
+            } else {
+                raw_even_normal(c, k, even, p.x, p.y)
+            }
+        }
         Kind::Biconic { cx, kx, cy, ky } => raw_biconic_normal(cx, kx, cy, ky, p.x, p.y),
         Kind::Toroid { rx, cy, ky } => raw_toroid_normal(rx, cy, ky, p.x, p.y),
     }

@@ -149,7 +149,7 @@ pub(crate) fn coefficients_good(a: Coefficients) -> bool
     (a.count <= MOST_COEFFICIENTS) & first_finite(values, a.count)
 }
 
-pub(crate) fn no_coefficients() -> Coefficients
+pub fn no_coefficients() -> Coefficients
     ensures { λ a. ⌜ a ≡ noCoefficients ⌝ }
 {
     Coefficients {

@@ -13,7 +13,7 @@ use borrow.Author.Tests.{le-ltb, eqb-true, eqb-false}
 use Rattle.numbers.specs.Arithmetic.{0f}
 use Rattle.surfaces.specs.Surface.{limitOf}
 use Rattle.surfaces.specs.declared.types.Ray.{Ray}
-use Rattle.surfaces.specs.declared.surface.Kind.the-variants.{Conic, Even, Odd, Biconic, Toroid}
+use Rattle.surfaces.specs.declared.surface.Kind.the-variants.{Conic, Asphere, Biconic, Toroid}
 use Rattle.numbers.proofs.Choice.{either}
 use Rattle.surfaces.proofs.Chains.{limit-bounds}
 use Rattle.recipe.specs.Scan.{Item, Scan, notes, nothing, placeOf, sumLimits}
@@ -199,7 +199,7 @@ module _ (y : List ℕ) (ray : Ray) (index : Float) (z : List Float) (h : startO
       (either Not12 (ltb (length w) (width * length (itemsOf y))) _ _ (λ e. omega arith) (λ e. omega arith))
 
 kind-limits : (c k cy ky : Float)
-    → (limitOf (Conic c k) ≡ 1) × (limitOf (Even c k) ≡ 25) × (limitOf (Odd c k) ≡ 25)
+    → (limitOf (Conic c k) ≡ 1) × (limitOf (Asphere c k false) ≡ 25) × (limitOf (Asphere c k true) ≡ 25)
     × (limitOf (Biconic c k cy ky) ≡ 35) × (limitOf (Toroid c k cy) ≡ 35)
 unfolding limitOf
 kind-limits c k cy ky = (refl, refl, refl, refl, refl)

@@ -5,6 +5,7 @@
 use Prim.Native.Nat.{ℕ, suc, _+_, _-_, _≤_, _<_, min}
 use mathlib.Core.Path.{_≡_}
 use mathlib.Core.Logic.{_≢_, _↔_}
+use mathlib.Core.Bool.{true, false}
 use mathlib.Core.List.{List, [], _∷_}
 use lib.ListN.{length, take}
 use lib.Dec.{leb}
@@ -13,7 +14,7 @@ use Rattle.numbers.specs.Arithmetic.{if_then_else_, 0f}
 use Rattle.surfaces.specs.Refusal.{done}
 use Rattle.surfaces.specs.Surface.{surfaceEnd, limitOf, chain}
 use Rattle.surfaces.specs.declared.types.Ray.{Ray}
-use Rattle.surfaces.specs.declared.surface.Kind.the-variants.{Conic, Even, Odd, Biconic, Toroid}
+use Rattle.surfaces.specs.declared.surface.Kind.the-variants.{Conic, Asphere, Biconic, Toroid}
 use Rattle.recipe.specs.Scan.{Item, sumLimits}
 use Rattle.trace.specs.declared.leg.Beam.{Beam}
 use Rattle.trace.specs.declared.state.State.{State}
@@ -109,7 +110,7 @@ pub record Demand3 : Type 0 where
       → Over (traceOf b ray index) (length z) (called b ray index z allowances)
   -- which are 1 for each conic, 25 for each even or odd asphere, 35 for each biconic or toroid
   pub limits : (c k cy ky : Float)
-      → (limitOf (Conic c k) ≡ 1) × (limitOf (Even c k) ≡ 25) × (limitOf (Odd c k) ≡ 25)
+      → (limitOf (Conic c k) ≡ 1) × (limitOf (Asphere c k false) ≡ 25) × (limitOf (Asphere c k true) ≡ 25)
       × (limitOf (Biconic c k cy ky) ≡ 35) × (limitOf (Toroid c k cy) ≡ 35)
   -- a state that a genuine run returns is never refused with 12, whatever the buffer
   pub fits : (b : List ℕ) (ray : Ray) (index : Float) (z : List Float) (allowances : List ℕ) → Accepted b ray index z

@@ -7,8 +7,8 @@ use Rattle.recipe.proofs.record.kind_at.Statement.{statement}
 use Rattle.recipe.proofs.record.kind_at.Tie as tie
 
 -- where two slots are read, from where the kind has more
-abbrev two-read : tie.Else3 → tie.After-slot2
-two-read c = c .before .before .before
+abbrev two-read : tie.Else2 → tie.After-slot2
+two-read c = c .before .before
 
 abbrev start : tie.After-slot2 → tie.Start
 start c = c .before .before .before
@@ -27,30 +27,20 @@ kind-at-spec =
     let two = c .before .before in
     rw (
       ne-eqb _ _ (c .before .if1 .left),
-      eq-eqb _ _ (c .if2 .taken),
-      ← two .before .slot .ensures,
-      ← two .slot2 .ensures,
-    ))
-    (λ c.
-    let two = c .before .before .before in
-    rw (
-      ne-eqb _ _ (c .before .before .if1 .left),
-      ne-eqb _ _ (c .before .if2 .left),
-      eq-eqb _ _ (c .if3 .taken),
+      c .if2 .taken,
       ← two .before .slot .ensures,
       ← two .slot2 .ensures,
     ))
     (λ c κs. omega (arith, semi-least (start (two-read c) .args .kind)))
-    (λ c κs. omega (arith, semi-biconic (start (two-read (c .before .before)) .args .kind) (c .if4 .taken)))
+    (λ c κs. omega (arith, semi-biconic (start (two-read (c .before .before)) .args .kind) (c .if3 .taken)))
     (λ c.
     let third = c .before .before in
     let more = third .before in
     let two = two-read more in
     rw (
-      ne-eqb _ _ (more .before .before .if1 .left),
-      ne-eqb _ _ (more .before .if2 .left),
-      ne-eqb _ _ (more .if3 .left),
-      eq-eqb _ _ (c .before .if4 .taken),
+      ne-eqb _ _ (more .before .if1 .left),
+      more .if2 .left,
+      eq-eqb _ _ (c .before .if3 .taken),
       ← two .before .slot .ensures,
       ← two .slot2 .ensures,
       ← third .slot3 .ensures,
@@ -61,10 +51,9 @@ kind-at-spec =
     let more = third .before in
     let two = two-read more in
     rw (
-      ne-eqb _ _ (more .before .before .if1 .left),
-      ne-eqb _ _ (more .before .if2 .left),
-      ne-eqb _ _ (more .if3 .left),
-      ne-eqb _ _ (c .if4 .left),
+      ne-eqb _ _ (more .before .if1 .left),
+      more .if2 .left,
+      ne-eqb _ _ (c .if3 .left),
       ← two .before .slot .ensures,
       ← two .slot2 .ensures,
       ← third .slot3 .ensures,

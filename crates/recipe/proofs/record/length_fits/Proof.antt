@@ -15,13 +15,5 @@ length-fits-spec =
     let c1 = c .before in let c2 = c1 .before in
     rw (ne-eqb _ _ (c2 .if1 .left), ne-eqb _ _ (c1 .if2 .left), eq-eqb _ _ (c .if3 .taken)))
     (λ c.
-    let c1 = c .before in let c2 = c1 .before in let c3 = c2 .before in
-    rw (
-      ne-eqb _ _ (c3 .if1 .left),
-      ne-eqb _ _ (c2 .if2 .left),
-      ne-eqb _ _ (c1 .if3 .left),
-      eq-eqb _ _ (c .if4 .taken),
-    ))
-    (λ c.
-    let c1 = c .before in let c2 = c1 .before in let c3 = c2 .before in
-    rw (ne-eqb _ _ (c3 .if1 .left), ne-eqb _ _ (c2 .if2 .left), ne-eqb _ _ (c1 .if3 .left), ne-eqb _ _ (c .if4 .left))))
+    let c1 = c .before in let c2 = c1 .before in
+    rw (ne-eqb _ _ (c2 .if1 .left), ne-eqb _ _ (c1 .if2 .left), ne-eqb _ _ (c .if3 .left))))

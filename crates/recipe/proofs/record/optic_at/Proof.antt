@@ -9,11 +9,11 @@ use Rattle.recipe.proofs.record.optic_at.Statement.{statement}
 use Rattle.recipe.proofs.record.optic_at.Tie as tie
 
 -- where length and kind are read, from where the coefficients are
-abbrev read : tie.After-coefficients-at2 → tie.After-u16-at2
-read c = c .before .before .before .before
+abbrev read : tie.After-odd-coefficients-at → tie.After-u16-at2
+read c = c .before .before .before
 
 -- where the coefficients are, from where the semi-diameter is
-abbrev terms : tie.After-slot2 → tie.After-coefficients-at2
+abbrev terms : tie.After-slot2 → tie.After-odd-coefficients-at
 terms c = c .before .before .before
 
 -- what the shape tells of the places behind them
@@ -35,8 +35,7 @@ optic-at-spec =
     (λ c κs. let f = places (c .before) in (omega arith, omega arith))
     (λ c. let f = places (c .before .before) in omega arith)
     (λ c. let f = places (c .before .before) in omega arith)
-    (λ c κs. tt)
-    (λ c κs. let f = places (c .before .before .before) in (omega arith, omega arith))
+    (λ c κs. let f = places (c .before .before) in omega arith)
     (λ c κs. let f = places (read c) in omega arith)
     (λ c κs. tt)
     (λ c κs. let f = places (read (c .before .before)) in omega arith)
@@ -45,7 +44,7 @@ optic-at-spec =
     (λ c.
     let semi = c .before .before in
     let odd = terms semi in
-    let even = odd .before .before in
+    let even = odd .before in
     let r = read odd in
     rw (
       ← r .before .u16-at .ensures .0,
@@ -56,7 +55,6 @@ optic-at-spec =
       ← c .before .kind-at .ensures,
       ← even .before .even-count .ensures,
       ← even .coefficients-at .ensures,
-      ← odd .before .odd-count .ensures,
-      ← odd .coefficients-at2 .ensures,
+      ← odd .odd-coefficients-at .ensures,
       ← c .slot3 .ensures,
     )))

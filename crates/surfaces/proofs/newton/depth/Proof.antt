@@ -12,7 +12,6 @@ depth-spec =
     (λ c. search needs)
     (λ c κs. tt)
     (λ c κs. tt)
-    (λ c. search needs)
     (λ c κs. tt)
     (λ c κs. tt)
     (λ c. search needs)
@@ -20,10 +19,10 @@ depth-spec =
     (λ c. search needs)
     (λ c κs. tt)
     (λ c.
-    let c1 = c .before in let c3 = c1 .before .before in
-    rw (c3 .q .given .1, ← c1 .sqrt .ensures, ← c .even-depth .ensures))
+    let c1 = c .before in let c2 = c1 .before in let c4 = c2 .before .before in
+    rw (c4 .q .given .1, c2 .if1 .taken, ← c1 .sqrt .ensures, ← c .odd-depth .ensures))
     (λ c.
-    let c1 = c .before in let c3 = c1 .before .before in
-    rw (c3 .q2 .given .1, ← c1 .sqrt2 .ensures, ← c .odd-depth .ensures))
-    (λ c. let c2 = c .before .before in rw (c2 .q3 .given .1, ← c .biconic-depth .ensures))
-    (λ c. let c2 = c .before .before in rw (c2 .q4 .given .1, ← c .toroid-depth .ensures)))
+    let c1 = c .before in let c2 = c1 .before in let c4 = c2 .before .before in
+    rw (c4 .q .given .1, c2 .if1 .left, ← c1 .sqrt2 .ensures, ← c .even-depth .ensures))
+    (λ c. let c2 = c .before .before in rw (c2 .q2 .given .1, ← c .biconic-depth .ensures))
+    (λ c. let c2 = c .before .before in rw (c2 .q3 .given .1, ← c .toroid-depth .ensures)))

@@ -1,5 +1,6 @@
 -- What is to come from here is what was to come from the start. Assumes nothing.
 use Prim.Native.Nat.{suc, _-_, _<_, _≤_}
+use mathlib.Core.Bool.{true, false}
 use mathlib.Core.Path.{_≡_, refl, sym, ap, _∙_}
 use mathlib.Core.Logic.{⊎-elim}
 use native.Mathlib.Omega.{arith}
@@ -11,7 +12,7 @@ use Rattle.surfaces.specs.Newton.{going, newtonEnd}
 use Rattle.surfaces.specs.Parts.{shapeOf}
 use Rattle.surfaces.specs.declared.types.Polynomial.{Polynomial}
 use Rattle.surfaces.specs.declared.newton.Profile.{Profile}
-use Rattle.surfaces.specs.declared.newton.Profile.the-variants.{Even, Odd, Biconic, Toroid}
+use Rattle.surfaces.specs.declared.newton.Profile.the-variants.{Asphere, Biconic, Toroid}
 use Rattle.surfaces.specs.declared.newton.Passed.{Passed}
 use Rattle.surfaces.proofs.Passes.{onFrom, next, step, more, no-more}
 use Rattle.surfaces.proofs.Refusals.{never-going}
@@ -28,8 +29,8 @@ abbrev μ-loop : tie.MeasureT-loop
 
 limits : (q : Profile) (a : Polynomial) (semi : Float) →
     (0 < shapeOf q a semi .limit) × (shapeOf q a semi .limit ≤ 35)
-limits (Even c k) a semi = (omega arith, omega arith)
-limits (Odd c k) a semi = (omega arith, omega arith)
+limits (Asphere c k false) a semi = (omega arith, omega arith)
+limits (Asphere c k true) a semi = (omega arith, omega arith)
 limits (Biconic cx kx cy ky) a semi = (omega arith, omega arith)
 limits (Toroid rx cy ky) a semi = (omega arith, omega arith)
 

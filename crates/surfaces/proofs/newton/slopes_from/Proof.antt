@@ -11,13 +11,16 @@ slopes-from-spec =
     (tie.spec
     (λ c. search needs)
     (λ c κs. tt)
-    (λ c. search needs)
     (λ c κs. tt)
     (λ c. search needs)
     (λ c κs. tt)
     (λ c. search needs)
     (λ c κs. tt)
-    (λ c. let c2 = c .before .before in rw (c2 .q .given .1, ← c .even-slopes-from .ensures))
-    (λ c. let c2 = c .before .before in rw (c2 .q2 .given .1, ← c .odd-slopes-from .ensures))
-    (λ c. let c2 = c .before .before in rw (c2 .q3 .given .1, ← c .biconic-slopes-from .ensures))
-    (λ c. let c2 = c .before .before in rw (c2 .q4 .given .1, ← c .toroid-slopes-from .ensures)))
+    (λ c.
+    let c1 = c .before in let c3 = c1 .before .before in
+    rw (c3 .q .given .1, c1 .if1 .taken, ← c .odd-slopes-from .ensures))
+    (λ c.
+    let c1 = c .before in let c3 = c1 .before .before in
+    rw (c3 .q .given .1, c1 .if1 .left, ← c .even-slopes-from .ensures))
+    (λ c. let c2 = c .before .before in rw (c2 .q2 .given .1, ← c .biconic-slopes-from .ensures))
+    (λ c. let c2 = c .before .before in rw (c2 .q3 .given .1, ← c .toroid-slopes-from .ensures)))

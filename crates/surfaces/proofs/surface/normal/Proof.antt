@@ -14,7 +14,6 @@ normal-spec =
     (λ c κs. tt)
     (λ c. search needs)
     (λ c κs. tt)
-    (λ c. search needs)
     (λ c κs. tt)
     (λ c. search needs)
     (λ c κs. tt)
@@ -23,7 +22,11 @@ normal-spec =
     (λ c.
     let c1 = c .before in let c3 = c1 .before .before in
     rw (c3 .kind .given .1, ← c1 .conic-of .ensures, ← c .normal-at .ensures))
-    (λ c. let c2 = c .before .before in rw (c2 .kind2 .given .1, ← c .raw-even-normal .ensures))
-    (λ c. let c2 = c .before .before in rw (c2 .kind3 .given .1, ← c .raw-odd-normal .ensures))
-    (λ c. let c2 = c .before .before in rw (c2 .kind4 .given .1, ← c .raw-biconic-normal .ensures))
-    (λ c. let c2 = c .before .before in rw (c2 .kind5 .given .1, ← c .raw-toroid-normal .ensures)))
+    (λ c.
+    let c1 = c .before in let c3 = c1 .before .before in
+    rw (c3 .kind2 .given .1, c1 .if1 .taken, ← c .raw-odd-normal .ensures))
+    (λ c.
+    let c1 = c .before in let c3 = c1 .before .before in
+    rw (c3 .kind2 .given .1, c1 .if1 .left, ← c .raw-even-normal .ensures))
+    (λ c. let c2 = c .before .before in rw (c2 .kind3 .given .1, ← c .raw-biconic-normal .ensures))
+    (λ c. let c2 = c .before .before in rw (c2 .kind4 .given .1, ← c .raw-toroid-normal .ensures)))

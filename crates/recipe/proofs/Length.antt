@@ -12,7 +12,8 @@ use Rattle.numbers.specs.Arithmetic.{if_then_else_}
 use Rattle.surfaces.specs.declared.surface.Kind.the-variants.{Conic, Asphere, Biconic, Toroid}
 use Rattle.recipe.specs.Endian.{u16At, u64At, numberAt, numbersAt}
 use Rattle.recipe.specs.Record.{Read, bad, good, lengthAt, kindAt, endAt, slotAt, lengthFits, formedAt, longest}
-use Rattle.recipe.specs.Record.{shapedAt, semiSlot, kindOf, oddCount, evenCount, coefficientsAt, opticAt, recordAt}
+use Rattle.recipe.specs.Record.{shapedAt, semiSlot, kindOf, oddCount, evenCount, coefficientsAt, opticAt}
+use Rattle.recipe.specs.Record.{recordAt}
 use Rattle.recipe.specs.Scan.{onRead, scan}
 use Rattle.recipe.specs.Length.{RefusedAlike, TooLong}
 use Rattle.recipe.proofs.Shapes.{semi-least, semi-biconic, fits, shape}

@@ -216,8 +216,8 @@ ruleset tells = (
 pub demand-1 : Demand1
 unfolding reflectAnswer refractAnswer fromRadiusAnswer fromCurvatureAnswer conicSag conicSagAnswer conicNormalAnswer
     normalAt conicMeet conicMeetAnswer baseSag newEvenAnswer evenSag evenSagAnswer evenSlopeAnswer evenNormal evenFacing
-    evenNormalAnswer evenParaxialAnswer evenCrossingAnswer newOddAnswer oddSag oddSagAnswer
-    oddNormal oddNormalAnswer oddCrossingAnswer normalOf newBiconicAnswer biconicSag biconicSagAnswer biconicSlopesAnswer biconicNormal
+    evenNormalAnswer evenParaxialAnswer evenCrossingAnswer newOddAnswer oddSag oddSagAnswer oddNormal oddNormalAnswer
+    oddCrossingAnswer normalOf newBiconicAnswer biconicSag biconicSagAnswer biconicSlopesAnswer biconicNormal
     biconicNormalAnswer biconicCrossingAnswer newToroidAnswer toroidSag circleSag toroidSagAnswer toroidSlopesAnswer
     toroidNormal toroidNormalAnswer toroidCrossingAnswer passAnswer surfaceNormal turnAnswer oneOf
 demand-1 = record {

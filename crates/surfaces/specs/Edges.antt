@@ -331,8 +331,10 @@ cases =
     (turn (turnAnswer (flat (whole 10)) (vec (whole (10 ^ 200)) 0f (whole 1000)) far-out (Media 1f 1f))
     ⇒ turn (refused noLeaving (plain 2))) ∷
     -- the last pass, the 25th or the 35th, ends in a miss if in nothing else
-    (end (surfaceEnd (surface 0f (whole 5) (Asphere 0f 0f false) (ones 1)) to-and-fro) ⇒ end (ended (noCrossing 6) 25)) ∷
-    (end (surfaceEnd (surface 0f (whole 5) (Asphere 0f 0f true) (ones 1)) to-and-fro) ⇒ end (ended (noCrossing 6) 25)) ∷
+    (end (surfaceEnd (surface 0f (whole 5) (Asphere 0f 0f false) (ones 1)) to-and-fro)
+    ⇒ end (ended (noCrossing 6) 25)) ∷
+    (end (surfaceEnd (surface 0f (whole 5) (Asphere 0f 0f true) (ones 1)) to-and-fro)
+    ⇒ end (ended (noCrossing 6) 25)) ∷
     (end (surfaceEnd (surface 0f (whole 5) (Biconic 2f (neg 1f) 0f 0f) noCoefficients) to-and-fro)
     ⇒ end (ended (noCrossing 6) 35)) ∷
     -- and it may hit: on a ray that touches, x - 64 halves 24 times from -32
@@ -391,8 +393,8 @@ unfolding cases bits _over_ decimal magnitude negative larger clamped infinite r
     evenSlope radialSlopes evenSlopes lengthOf facingOf normalOf evenFacing evenNormal evenGood evenSagAnswer
     evenSlopeAnswer evenParaxialAnswer evenCrossingAnswer oddSag oddBaseSlope oddSlope oddOnAxis oddSlopesAt oddNormal
     oddSlopes oddGood oddSagAnswer oddNormalAnswer oddCrossingAnswer numeratorOf biconicRadicand biconicSag onAxis
-    meridianSlope biconicSlopesAt biconicSlopes biconicNormal biconicGood biconicSagAnswer biconicSlopesAnswer biconicNormalAnswer biconicCrossingAnswer baseCurveRadicand
-    baseCurveSag circleSag toroidSag slopeRadicand baseCurveSlope circleSlopesAt circleSlopes toroidSlopes toroidNormal
-    toroidGood toroidSagAnswer toroidSlopesAnswer toroidCrossingAnswer passAnswer surfaceEnd surfaceNormal onwardFrom
-    turnAnswer
+    meridianSlope biconicSlopesAt biconicSlopes biconicNormal biconicGood biconicSagAnswer biconicSlopesAnswer
+    biconicNormalAnswer biconicCrossingAnswer baseCurveRadicand baseCurveSag circleSag toroidSag slopeRadicand
+    baseCurveSlope circleSlopesAt circleSlopes toroidSlopes toroidNormal toroidGood toroidSagAnswer toroidSlopesAnswer
+    toroidCrossingAnswer passAnswer surfaceEnd surfaceNormal onwardFrom turnAnswer
 each-case = refl

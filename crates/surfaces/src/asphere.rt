@@ -3,8 +3,8 @@
 ghost use mathlib.Core.Path.{_≡_};
 ghost use Rattle.surfaces.specs.Refusal.{toldNumber, toldSag, toldPair, toldDirection, toldCrossing, toldEven};
 ghost use Rattle.surfaces.specs.Refusal.{toldOdd};
-ghost use Rattle.surfaces.specs.Asphere.{evenSag, evenSlope, lengthOf, facingOf, normalOf, evenFacing, evenNormal};
-ghost use Rattle.surfaces.specs.Asphere.{evenGood, newEvenAnswer, evenSagAnswer, evenSlopeAnswer};
+ghost use Rattle.surfaces.specs.Asphere.{evenSag, evenSlope, lengthOf, facingOf, normalOf, evenFacing};
+ghost use Rattle.surfaces.specs.Asphere.{evenNormal, evenGood, newEvenAnswer, evenSagAnswer, evenSlopeAnswer};
 ghost use Rattle.surfaces.specs.Asphere.{evenNormalAnswer, evenParaxialAnswer, evenCrossingAnswer, oddSag};
 ghost use Rattle.surfaces.specs.Asphere.{oddSlopesAt, oddNormal, oddGood, newOddAnswer, powersOf, oddSagAnswer};
 ghost use Rattle.surfaces.specs.Asphere.{oddNormalAnswer, oddCrossingAnswer};

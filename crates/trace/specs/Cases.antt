@@ -284,7 +284,8 @@ unfolding cases lens folded narrow on answered bits _over_ bytes patterns beamRe
     limitedPass powerSumFrom slopeSumFrom baseSag baseSlope evenSag evenSlope radialSlopes evenSlopes lengthOf facingOf
     normalOf evenFacing evenNormal oddSag oddBaseSlope oddSlope oddOnAxis oddSlopesAt oddNormal oddSlopes passAnswer
     surfaceEnd limitOf surfaceNormal onwardFrom turnAnswer u16At u64At numberAt numbersAt slotAt lengthFits formedAt
-    shapedAt semiSlot kindOf oddCount evenCount coefficientsAt opticAt negativeSemi recordAt scan placeOf notes isSource vectorAt sourceOf boundaryOf share legFinite legOf beamAfter hitRow refusalRow rowOf
-    unbroken total rows padded pausedAt stateAfter surfaceLeft stepOn move advance outcomeKnown placeFits passesFit
-    beamGood fitsOf refusedAnswer admission startAt startOf startFileOf continueOf wholeOf
+    shapedAt semiSlot kindOf oddCount evenCount coefficientsAt opticAt negativeSemi recordAt scan placeOf notes isSource
+    vectorAt sourceOf boundaryOf share legFinite legOf beamAfter hitRow refusalRow rowOf unbroken total rows padded
+    pausedAt stateAfter surfaceLeft stepOn move advance outcomeKnown placeFits passesFit beamGood fitsOf refusedAnswer
+    admission startAt startOf startFileOf continueOf wholeOf
 each-case = refl

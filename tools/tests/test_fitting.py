@@ -78,7 +78,7 @@ class Samples(Refusing, unittest.TestCase):
             hold(listing_of(name), lens_of(name))
 
     def test_every_lens_that_traces_otherwise(self):
-        """315 of them; tracing showed it of each but the cover's 56. The lost beam comes to two surfaces alone."""
+        """315 of them, as tracing each one showed. The lost beam comes to two surfaces alone."""
         refused = dict.fromkeys(ALL, 0)
         for name in ALL:
             lens, listing = lens_of(name), listing_of(name)

@@ -37,22 +37,23 @@ pub struct Newton<'a> {
 
 impl<'a> Newton<'a> {
     pub fn of_even(s: &'a EvenAsphere) -> Self {
-        Newton {
-            semi: s.semi_diameter_mm,
-            limit: 25,
-            stops_a_last_move: false,
-            sag: Box::new(|_, r| s.sag(r)),
-            slopes: Box::new(|p, r| even_slopes(s, p, r)),
-        }
+        Self::of_radius(s.semi_diameter_mm, false, |r| s.sag(r), |p, r| even_slopes(s, p, r))
     }
 
     pub fn of_odd(s: &'a OddAsphere) -> Self {
+        Self::of_radius(s.semi_diameter_mm, true, |r| s.sag(r), |p, r| odd_slopes(s, p, r))
+    }
+
+    fn of_radius(
+        semi: f64, stops_a_last_move: bool, sag: impl Fn(f64) -> Result<f64, OpticsError> + 'a,
+        slopes: impl Fn(Vec3, f64) -> Result<(f64, f64), OpticsError> + 'a,
+    ) -> Self {
         Newton {
-            semi: s.semi_diameter_mm,
+            semi,
             limit: 25,
-            stops_a_last_move: true,
-            sag: Box::new(|_, r| s.sag(r)),
-            slopes: Box::new(|p, r| odd_slopes(s, p, r)),
+            stops_a_last_move,
+            sag: Box::new(move |_, r| sag(r)),
+            slopes: Box::new(slopes),
         }
     }
 

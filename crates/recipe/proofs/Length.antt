@@ -2,14 +2,12 @@
 use Prim.Native.Nat.{ℕ, zero, suc, _+_, _*_, _/_, _%_, _≤_, _<_}
 use native.Mathlib.Omega.{arith}
 use mathlib.Core.Path.{_≡_, refl, sym}
-use mathlib.Core.Bool.{Bool, true, false, _&&_, _||_, and-false}
+use mathlib.Core.Bool.{Bool, true, false, _&&_, and-false}
 use mathlib.Core.List.{List}
 use lib.ListN.{length, take}
 use lib.Seq.{getD-take, length-take-le}
-use lib.Dec.{eqb, leb}
+use lib.Dec.{eqb, leb, lit≤}
 use borrow.Author.Tests.{eqb-true, leb-true, leb-false, le-leb, lt-leb}
-use Rattle.numbers.specs.Arithmetic.{if_then_else_}
-use Rattle.surfaces.specs.declared.surface.Kind.the-variants.{Conic, Asphere, Biconic, Toroid}
 use Rattle.recipe.specs.Endian.{u16At, u64At, numberAt, numbersAt}
 use Rattle.recipe.specs.Record.{Read, bad, good, lengthAt, kindAt, endAt, slotAt, lengthFits, formedAt, longest}
 use Rattle.recipe.specs.Record.{shapedAt, semiSlot, kindOf, oddCount, evenCount, coefficientsAt, opticAt}
@@ -59,22 +57,16 @@ module _ (b : List ℕ) (n : ℕ) where
   kind-take : (at kind : ℕ) → at + 12 + 8 * semiSlot kind ≤ n
       → kindOf kind (slotAt (take n b) at) ≡ kindOf kind (slotAt b at)
   unfolding kindOf
-  kind-take at kind h =
-      let l = semi-least kind in
-      rw (slot-take at 2 (omega arith), slot-take at 3 (omega arith), slot-take at 4 (omega arith))
-      (by (eqb kind 3) refl)
+  kind-take at kind h = by (eqb kind 3) refl
     where
-      by : (t : Bool) → eqb kind 3 ≡ t
-          → (if eqb kind 1 then Conic (slotAt b at 2) (slotAt b at 3) else
-          if eqb kind 2 || eqb kind 5 then Asphere (slotAt b at 2) (slotAt b at 3) (eqb kind 5) else
-          if t then Biconic (slotAt b at 2) (slotAt b at 3) (slotAt b at 4) (slotAt (take n b) at 5) else
-          Toroid (slotAt b at 2) (slotAt b at 3) (slotAt b at 4))
-          ≡ (if eqb kind 1 then Conic (slotAt b at 2) (slotAt b at 3) else
-          if eqb kind 2 || eqb kind 5 then Asphere (slotAt b at 2) (slotAt b at 3) (eqb kind 5) else
-          if t then Biconic (slotAt b at 2) (slotAt b at 3) (slotAt b at 4) (slotAt b at 5) else
-          Toroid (slotAt b at 2) (slotAt b at 3) (slotAt b at 4))
-      by true e = let six = semi-biconic kind (eqb-true kind 3 e) in rw (slot-take at 5 (omega arith))
-      by false e = refl
+      early : (i : ℕ) → i ≤ 4 → slotAt (take n b) at i ≡ slotAt b at i
+      early i j = let l = semi-least kind in slot-take at i (omega arith)
+
+      by : (t : Bool) → eqb kind 3 ≡ t → kindOf kind (slotAt (take n b) at) ≡ kindOf kind (slotAt b at)
+      by true e =
+          let six = semi-biconic kind (eqb-true kind 3 e) in
+          rw (early 2 (lit≤ tt), early 3 (lit≤ tt), early 4 (lit≤ tt), slot-take at 5 (omega arith))
+      by false e = rw (early 2 (lit≤ tt), early 3 (lit≤ tt), early 4 (lit≤ tt), e)
 
   module _ (at : ℕ) (h : longest < n) (k : n ≤ length b) where
     shaped-take : shapedAt (take n b) at ≡ shapedAt b at

@@ -18,7 +18,6 @@ use Rattle.recipe.specs.Record.{oddCount, evenCount}
 -- a length that a kind has, and what it has room for
 pub record Fitting (kind len : ℕ) : Type 0 where
   pub least : 42 ≤ len
-  pub most : len ≤ 170
   pub numbers : 2 + 8 * (len / 8) ≤ len
   pub semi : 10 + 8 * semiSlot kind ≤ len
   pub even : evenCount kind len ≤ 8
@@ -53,11 +52,11 @@ room-test n at k h = by (leb (at + 2 + k) n) refl
     by false e = lt-leb (2 + k) (n - at) (omega (arith, leb-false (at + 2 + k) n e))
 
 -- a length of whole numbers that has room for a kind's
-fitting : (kind len : ℕ) → 42 ≤ len → len ≤ 170 → len % 8 ≡ 2 → 10 + 8 * semiSlot kind ≤ len
+fitting : (kind len : ℕ) → 42 ≤ len → len % 8 ≡ 2 → 10 + 8 * semiSlot kind ≤ len
     → (evenCount kind len ≤ 8) × (oddCount kind ≤ 8) × (42 + 8 * evenCount kind len + 8 * oddCount kind ≤ len)
     → Fitting kind len
-fitting kind len l m e s n =
-    record { least = l; most = m; numbers = omega arith; semi = s; even = n .0; odd = n .1; terms = n .2 }
+fitting kind len l e s n =
+    record { least = l; numbers = omega arith; semi = s; even = n .0; odd = n .1; terms = n .2 }
 
 -- one of two, each a kind and its length
 last-two : (kind len i m j n : ℕ) → ((eqb kind i && eqb len m) || (eqb kind j && eqb len n)) ≡ true
@@ -83,21 +82,21 @@ fits kind len = by (eqb kind 1) refl (eqb kind 2) refl (eqb kind 3) refl
         → Fitting kind len
     by true t u _ v _ h =
         rw (eqb-true kind 1 t, eqb-true len 42 h)
-        (fitting 1 42 (lit≤ tt) (lit≤ tt) refl (lit≤ tt) (lit≤ tt, lit≤ tt, lit≤ tt))
+        (fitting 1 42 (lit≤ tt) refl (lit≤ tt) (lit≤ tt, lit≤ tt, lit≤ tt))
     by false _ true u v _ h =
         let p = both (leb 42 len && leb len 106) _ h in
         let q = both (leb 42 len) _ (p .0) in
         let l = leb-true 42 len (q .0) in
         let m = leb-true len 106 (q .1) in
         let e = eqb-true (len % 8) 2 (p .1) in
-        rw (eqb-true kind 2 u) (fitting 2 len l (omega arith) e l (omega arith, omega arith, omega arith))
+        rw (eqb-true kind 2 u) (fitting 2 len l e l (omega arith, omega arith, omega arith))
     by false _ false _ true v h =
         rw (eqb-true kind 3 v, eqb-true len 58 h)
-        (fitting 3 58 (lit≤ tt) (lit≤ tt) refl (lit≤ tt) (lit≤ tt, lit≤ tt, lit≤ tt))
+        (fitting 3 58 (lit≤ tt) refl (lit≤ tt) (lit≤ tt, lit≤ tt, lit≤ tt))
     by false _ false _ false _ h =
         ⊎-elim
-        (λ p. rw (p .0, p .1) (fitting 4 50 (lit≤ tt) (lit≤ tt) refl (lit≤ tt) (lit≤ tt, lit≤ tt, lit≤ tt)))
-        (λ p. rw (p .0, p .1) (fitting 5 170 (lit≤ tt) (lit≤ tt) refl (lit≤ tt) (lit≤ tt, lit≤ tt, lit≤ tt)))
+        (λ p. rw (p .0, p .1) (fitting 4 50 (lit≤ tt) refl (lit≤ tt) (lit≤ tt, lit≤ tt, lit≤ tt)))
+        (λ p. rw (p .0, p .1) (fitting 5 170 (lit≤ tt) refl (lit≤ tt) (lit≤ tt, lit≤ tt, lit≤ tt)))
         (last-two kind len 4 50 5 170 h)
 
 pub formed : (b : List ℕ) (at : ℕ) {len kind : ℕ} → formedAt b at ≡ true → len ≡ lengthAt b at → kind ≡ kindAt b at

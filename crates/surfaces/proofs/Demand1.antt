@@ -24,7 +24,7 @@ use Rattle.surfaces.specs.Biconic.{newBiconicAnswer, biconicSagAnswer, b
 use Rattle.surfaces.specs.Biconic.{biconicCrossingAnswer, biconicGood, biconicParaxialAnswer, circleSag}
 use Rattle.surfaces.specs.Biconic.{toroidSag, circleSlopes, toroidSlopes, toroidNormal, newToroidAnswer}
 use Rattle.surfaces.specs.Biconic.{toroidSagAnswer, toroidSlopesAnswer, toroidNormalAnswer, toroidCrossingAnswer}
-use Rattle.surfaces.specs.Surface.{Way, whole, passes, passBy, normalBy, passAnswer, surfaceNormal, onwardFrom}
+use Rattle.surfaces.specs.Surface.{Way, whole, passes, passBy, chainBy, normalBy, surfaceNormal, onwardFrom}
 use Rattle.surfaces.specs.Surface.{turnAnswer}
 use Rattle.surfaces.specs.Demand1.{Only, Demand1}
 use Rattle.surfaces.specs.declared.types.Vec3.{Vec3}
@@ -164,11 +164,20 @@ onward i n Mirror = within (search reflection)
 onward i n (Media n1 n2) = within (search refraction)
 
 -- a pass, by how the surface is met
-by-way : (vertex : Float) (ray : Ray) (made : ℕ) (t : Float) (w : Way) →
+pub by-way : (vertex : Float) (ray : Ray) (made : ℕ) (t : Float) (w : Way) →
     Tells (oneOf (0 ∷ ends)) (passBy w vertex ray made t .line)
 unfolding limitedPass nextPass oneOf
 by-way vertex ray made t (whole q) = search crossed
 by-way vertex ray made t (passes q) = search (either-tells, pass-from)
+
+chain-by : (w : Way) (vertex : Float) (ray : Ray) (left made : ℕ) (t : Float) →
+    Tells (oneOf (0 ∷ ends)) (chainBy w vertex ray left made t .answer .line)
+unfolding chainBy oneOf
+chain-by w vertex ray zero made t = record { told = refl }
+chain-by w vertex ray (suc left) made t =
+    let x = passBy w vertex ray made t in
+    either-ended _ (going x) (chainBy w vertex ray left (suc made) (x .value .t)) (ended x (suc made))
+    (chain-by w vertex ray left (suc made) (x .value .t)) (by-way vertex ray made t w)
 
 -- where all five numbers are finite, the first and the third are
 tested : (a b c d e : Bool) (m : Meridians) →
@@ -209,7 +218,7 @@ ruleset tells = (
   toroid-slopes,
   normal,
   onward,
-  by-way,
+  chain-by,
   paraxial,
 )
 
@@ -219,7 +228,7 @@ unfolding reflectAnswer refractAnswer fromRadiusAnswer fromCurvatureAnswer conic
     evenNormalAnswer evenParaxialAnswer evenCrossingAnswer newOddAnswer oddSag oddSagAnswer oddNormal oddNormalAnswer
     oddCrossingAnswer normalOf newBiconicAnswer biconicSag biconicSagAnswer biconicSlopesAnswer biconicNormal
     biconicNormalAnswer biconicCrossingAnswer newToroidAnswer toroidSag circleSag toroidSagAnswer toroidSlopesAnswer
-    toroidNormal toroidNormalAnswer toroidCrossingAnswer passAnswer surfaceNormal turnAnswer oneOf
+    toroidNormal toroidNormalAnswer toroidCrossingAnswer surfaceNormal turnAnswer oneOf
 demand-1 = record {
   reflect = search tells depth 10;
   snell-refract = search tells depth 10;
@@ -249,7 +258,7 @@ demand-1 = record {
   toroid-derivatives = search tells depth 10;
   toroid-normal = search tells depth 10;
   toroid-intersect-ray = search tells depth 10;
-  pass = search tells depth 10;
+  chain = search tells depth 10;
   turn = search tells depth 10;
   line-of = line-of;
 }

@@ -21,7 +21,7 @@ use Rattle.surfaces.specs.declared.surface.Boundary.{Boundary}
 use Rattle.surfaces.proofs.Ways.{kind-limit}
 use Rattle.surfaces.proofs.Passes.{more}
 use Rattle.numbers.proofs.Lists.{each}
-use Rattle.surfaces.proofs.Demand1.{crossed, demand-1}
+use Rattle.surfaces.proofs.Demand1.{crossed, by-way, demand-1}
 
 -- a conic is met in one pass
 pub at-once : (ray : Ray) (s : ConicSurface) → going (conicCrossing ray s) ≡ false
@@ -35,10 +35,10 @@ module _ (s : Surface) (ray : Ray) (made : ℕ) (t : Float) where
   -- a pass that neither goes on nor hits has a number that stops
   pub pass-stops : going (passAnswer s ray made t) ≡ false → done (passAnswer s ray made t) ≡ false →
       stops (passAnswer s ray made t .line .number) ≡ true
-  unfolding Only oneOf stops
+  unfolding passAnswer oneOf stops
   pass-stops g d =
       each stops (4 ∷ 6 ∷ 7 ∷ []) (passAnswer s ray made t .line .number) refl
-      (rw (g, d) at (demand-1 .pass s ray made t))
+      (rw (g, d) at (by-way (s .vertex) ray made t (wayOf (s .kind) s) .told))
 
   -- a pass that goes on is not the last
   pub pass-limit : going (passAnswer s ray made t) ≡ true → made + 1 < limitOf (s .kind)

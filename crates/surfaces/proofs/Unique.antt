@@ -1,10 +1,13 @@
 -- What an answer tells is enough to find the answer again. Assumes nothing.
+use Prim.Native.Nat.{_+_, _-_}
 use mathlib.Core.Path.{_≡_, refl, sym, ap, _∙_}
+use native.Mathlib.Omega.{arith}
 use lib.Dec.{eqb}
 use Rattle.numbers.specs.Arithmetic.{if_then_else_}
 use Rattle.surfaces.specs.Refusal.{Told, done, lineOf, acceptanceLine, toldNumber, toldSag, toldPair}
 use Rattle.surfaces.specs.Refusal.{toldDirection, toldCrossing, toldMeet, toldConic, toldEven, toldOdd}
-use Rattle.surfaces.specs.Refusal.{toldBiconic, toldToroid, toldPassed, toldTurned, OneToOne, ToldOneToOne}
+use Rattle.surfaces.specs.Refusal.{toldBiconic, toldToroid, toldPassed, toldProgress, toldTurned, OneToOne}
+use Rattle.surfaces.specs.Refusal.{ToldOneToOne}
 use Rattle.surfaces.specs.Newton.{going}
 use Rattle.surfaces.specs.declared.types.Landing.{Landing}
 use Rattle.surfaces.specs.declared.refusal.Refusal.{Refusal}
@@ -102,7 +105,9 @@ told-one-to-one = record {
       (elim [ new-biconic.Given s ↦ refl | new-biconic.Refused e ↦ rw (never-done, same) ]);
   toroid = back-again toldToroid (answerOf new-toroid.Given new-toroid.Refused)
       (elim [ new-toroid.Given s ↦ refl | new-toroid.Refused e ↦ rw (never-done, same) ]);
-  passed = back-again toldPassed passedOf same-passed;
+  progress = λ made. back-again (toldProgress made)
+      (λ e. record { passed = passedOf (e .answer); taken = e .passes - made })
+      (λ e. let n : made + e .taken - made ≡ e .taken = omega arith in rw (same-passed (e .passed), n));
   turned = back-again toldTurned (answerOf turned.Given turned.Refused)
       (elim [ turned.Given l ↦ refl | turned.Refused e ↦ rw (never-done, same) ]);
 }

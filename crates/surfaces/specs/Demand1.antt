@@ -17,7 +17,7 @@ use Rattle.surfaces.specs.Asphere.{oddNormalAnswer, oddCrossingAnswer}
 use Rattle.surfaces.specs.Biconic.{newBiconicAnswer, biconicSagAnswer, biconicSlopesAnswer, biconicNormalAnswer}
 use Rattle.surfaces.specs.Biconic.{biconicCrossingAnswer, biconicParaxialAnswer, newToroidAnswer, toroidSagAnswer}
 use Rattle.surfaces.specs.Biconic.{toroidSlopesAnswer, toroidNormalAnswer, toroidCrossingAnswer}
-use Rattle.surfaces.specs.Surface.{passAnswer, turnAnswer}
+use Rattle.surfaces.specs.Surface.{chain, turnAnswer}
 use Rattle.surfaces.specs.declared.types.Vec3.{Vec3}
 use Rattle.surfaces.specs.declared.types.Ray.{Ray}
 use Rattle.surfaces.specs.declared.types.Coefficients.{Coefficients}
@@ -79,6 +79,7 @@ pub record Demand1 : Type 0 where
   pub toroid-intersect-ray : (s : ToroidalSurface) (ray : Ray) (vertex : Float) →
       Only (1 ∷ 2 ∷ 4 ∷ 6 ∷ 7 ∷ 9 ∷ []) (toroidCrossingAnswer s ray vertex)
   -- for a trace, inside which there is no 9 yet
-  pub pass : (s : Surface) (ray : Ray) (made : ℕ) (t : Float) → Only (0 ∷ 1 ∷ 4 ∷ 6 ∷ 7 ∷ []) (passAnswer s ray made t)
+  pub chain : (s : Surface) (ray : Ray) (left made : ℕ) (t : Float) →
+      Only (0 ∷ 1 ∷ 4 ∷ 6 ∷ 7 ∷ []) (chain s ray left made t .answer)
   pub turn : (s : Surface) (i p : Vec3) (b : Boundary) → Only (1 ∷ 2 ∷ 4 ∷ 5 ∷ 8 ∷ []) (turnAnswer s i p b)
   pub line-of : (e : Refusal) → oneOf (2 ∷ 3 ∷ 4 ∷ 5 ∷ 6 ∷ 7 ∷ 8 ∷ 9 ∷ []) (lineOf e .number) ≡ true

@@ -11,8 +11,7 @@ use Rattle.numbers.specs.Arithmetic.{_+₆₄_, _-₆₄_, _*₆₄_, _/₆₄_
 use Rattle.numbers.specs.Basic.{magnitude, larger}
 use Rattle.numbers.specs.Root.{root}
 use Rattle.surfaces.specs.Types.{meridians, noMeridians, terms}
-use Rattle.surfaces.specs.Refusal.{Told, Ended, plain, gives, refused, after, ended, noNumber, noPair}
-use Rattle.surfaces.specs.Refusal.{toldCrossing}
+use Rattle.surfaces.specs.Refusal.{Told, plain, gives, refused, after, noNumber, noPair}
 use Rattle.surfaces.specs.Conic.{Quadratic, conicEdge, sheetTolerance, signOf}
 use Rattle.surfaces.specs.Sags.{edgeRoot}
 use Rattle.surfaces.specs.Newton.{Shape}
@@ -34,7 +33,6 @@ use Rattle.surfaces.specs.declared.sags.Depth.{Depth}
 use Rattle.surfaces.specs.declared.sags.Depth.the-variants as depth
 use Rattle.surfaces.specs.declared.newton.Profile.{Profile}
 use Rattle.surfaces.specs.declared.newton.Profile.the-variants as profile
-use Rattle.surfaces.specs.declared.newton.End.{End}
 use Rattle.surfaces.specs.declared.surface.Kind.{Kind}
 use Rattle.surfaces.specs.declared.surface.Kind.the-variants.{Conic, Asphere, Biconic, Toroid}
 use Rattle.surfaces.specs.declared.surface.Family.{Family}
@@ -197,9 +195,6 @@ slopesFrom (profile.Asphere c k false) a p s part base = evenSlopesFrom c (a .ev
 slopesFrom (profile.Asphere c k true) a p s part base = gives (oddSlopesFrom c a (p .x) (p .y) part s)
 slopesFrom (profile.Biconic cx kx cy ky) a p s part base = biconicSlopesFrom cx kx cy ky (p .x) (p .y) part s
 slopesFrom (profile.Toroid rx cy ky) a p s part base = toroidSlopesFrom rx cy ky (p .x) (p .y) part s base
-
-abbrev pub toldEnd : End → Ended
-toldEnd e = ended (toldCrossing (e .crossing)) (e .passes)
 
 -- surface: a conic, or a profile
 abbrev pub familyOf : Kind → Family

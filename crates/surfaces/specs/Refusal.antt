@@ -1,6 +1,6 @@
 -- What comes back, in SCOPE's terms (T1, T2): a line of its table and the answer's values. The rules speak in these
 -- terms, and what each answer of the code tells stands below. Definitions only.
-use Prim.Native.Nat.{ℕ}
+use Prim.Native.Nat.{ℕ, _+_}
 use mathlib.Core.Bool.{Bool, false, not, _&&_, _||_}
 use mathlib.Core.Path.{_≡_}
 use lib.Dec.{eqb, leb}
@@ -46,6 +46,7 @@ use Rattle.surfaces.specs.declared.biconic.NewToroid.{NewToroid}
 use Rattle.surfaces.specs.declared.biconic.NewToroid.the-variants as new-toroid
 use Rattle.surfaces.specs.declared.newton.Passed.{Passed}
 use Rattle.surfaces.specs.declared.newton.Passed.the-variants as passed
+use Rattle.surfaces.specs.declared.newton.Progress.{Progress}
 use Rattle.surfaces.specs.declared.surface.Leaving.{Leaving}
 use Rattle.surfaces.specs.declared.surface.Turned.{Turned}
 use Rattle.surfaces.specs.declared.surface.Turned.the-variants as turned
@@ -194,6 +195,10 @@ pub record Ended : Type 0 where
 abbrev pub ended : Told Landing → ℕ → Ended
 ended x n = record { answer = x; passes = n }
 
+-- how far passes came, after `made` of them
+abbrev pub toldProgress : ℕ → Progress → Ended
+toldProgress made e = ended (toldPassed (e .passed)) (made + e .taken)
+
 abbrev pub noLeaving : Leaving
 noLeaving = record { normal = zeros; direction = zeros; front = false }
 
@@ -217,5 +222,5 @@ pub record ToldOneToOne : Type 0 where
   pub odd : OneToOne toldOdd
   pub biconic : OneToOne toldBiconic
   pub toroid : OneToOne toldToroid
-  pub passed : OneToOne toldPassed
+  pub progress : (made : ℕ) → OneToOne (toldProgress made)
   pub turned : OneToOne toldTurned

@@ -66,11 +66,14 @@ unfoldable pub limitOf : Kind → ℕ
 limitOf k = limitBy (wayOf k (bare k))
 
 -- passes one after another, so many at most
-unfoldable pub chain : Surface → Ray → ℕ → ℕ → Float → Ended
-chain s ray zero made t = ended (again t) made
-chain s ray (suc n) made t =
-    let x = passAnswer s ray made t in
-    if going x then chain s ray n (suc made) (x .value .t) else ended x (suc made)
+unfoldable pub chainBy : Way → Float → Ray → ℕ → ℕ → Float → Ended
+chainBy w vertex ray zero made t = ended (again t) made
+chainBy w vertex ray (suc n) made t =
+    let x = passBy w vertex ray made t in
+    if going x then chainBy w vertex ray n (suc made) (x .value .t) else ended x (suc made)
+
+abbrev pub chain : Surface → Ray → ℕ → ℕ → Float → Ended
+chain s ray n made t = chainBy (wayOf (s .kind) s) (s .vertex) ray n made t
 
 -- a chain of passes ends as the kind's own rule says, within the kind's limit
 pub record ChainEnds (s : Surface) (ray : Ray) (t : Float) : Type 0 where

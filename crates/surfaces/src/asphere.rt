@@ -226,9 +226,7 @@ impl EvenAsphere {
             k: self.conic,
             odd: false,
         };
-        let end = newton(profile, a, self.semi, vertex, ray);
-        let crossing = end.crossing;
-        checked_crossing(crossing)
+        checked_crossing(newton(profile, a, self.semi, vertex, ray))
     }
 }
 
@@ -363,8 +361,6 @@ impl OddAsphere {
             k: self.conic,
             odd: true,
         };
-        let end = newton(profile, self.powers(), self.semi, vertex, ray);
-        let crossing = end.crossing;
-        checked_crossing(crossing)
+        checked_crossing(newton(profile, self.powers(), self.semi, vertex, ray))
     }
 }

@@ -162,9 +162,7 @@ impl BiconicSurface {
             cy: self.cy,
             ky: self.ky,
         };
-        let end = newton(profile, no_polynomial(), self.semi, vertex, ray);
-        let crossing = end.crossing;
-        checked_crossing(crossing)
+        checked_crossing(newton(profile, no_polynomial(), self.semi, vertex, ray))
     }
 
     pub fn paraxial_curvatures(self) -> Pair
@@ -289,8 +287,6 @@ impl ToroidalSurface {
             cy: self.cy,
             ky: self.ky,
         };
-        let end = newton(profile, no_polynomial(), self.semi, vertex, ray);
-        let crossing = end.crossing;
-        checked_crossing(crossing)
+        checked_crossing(newton(profile, no_polynomial(), self.semi, vertex, ray))
     }
 }

@@ -2,13 +2,16 @@
 // f(t) = z - vertex - sag(x, y) at the ray's point has the slope f' = dz - (∂z/∂x dx + ∂z/∂y dy), and t moves by -f /
 // f'.
 ghost use mathlib.Core.Path.{_≡_};
+ghost use Prim.Native.Nat.{_<_};
 ghost use Rattle.numbers.specs.Arithmetic.{0f};
 ghost use Rattle.numbers.specs.Root.{root};
 ghost use Rattle.surfaces.specs.Types.{noPolynomial};
 ghost use Rattle.surfaces.specs.Refusal.{noCrossing, toldPair, toldCrossing, toldPassed};
+ghost use Rattle.surfaces.specs.Refusal.{toldProgress};
 ghost use Rattle.surfaces.specs.Newton.{arrivedAt, movedBy, passAt, vertexPlane, newtonEnd, canBeMet, passStart};
 ghost use Rattle.surfaces.specs.Newton.{nextPass, limitedPass};
-ghost use Rattle.surfaces.specs.Parts.{toldDepth, shapeOf, depthOf, slopesFrom, toldEnd};
+ghost use Rattle.surfaces.specs.Surface.{passes, chainBy};
+ghost use Rattle.surfaces.specs.Parts.{toldDepth, shapeOf, depthOf, slopesFrom};
 use crate::conic::landed_within;
 use crate::refusal::Crossing;
 use crate::refusal::Pair;
@@ -57,10 +60,10 @@ pub enum Passed {
     Again(f64),
 }
 
-// How an intersection ended, after how many passes.
-pub(crate) struct End {
-    pub crossing: Crossing,
-    pub passes: u16,
+// How far passes came: what the last one came to, and how many they were.
+pub struct Progress {
+    pub passed: Passed,
+    pub taken: u16,
 }
 
 // The sag at p, from what its distance from the axis is the root of.
@@ -298,29 +301,56 @@ pub(crate) fn limited_pass(
     }
 }
 
-// The Rust's intersect_ray of these kinds, with the passes that it took.
-pub(crate) fn newton(q: Profile, a: Polynomial, semi: f64, vertex: f64, ray: Ray) -> End
-    ensures { λ e. ⌜ toldEnd e ≡ newtonEnd (shapeOf q a semi) vertex ray ⌝ }
+// At most `left` passes, one after another until one ends, after `made` of them.
+pub(crate) fn newton_chain(
+    q: Profile,
+    a: Polynomial,
+    semi: f64,
+    vertex: f64,
+    ray: Ray,
+    left: u16,
+    made: u16,
+    t: f64,
+) -> Progress
+    requires { ⌜ 0 < left ⌝ }
+    ensures { λ e. ⌜ toldProgress made e ≡ chainBy (passes (shapeOf q a semi)) vertex ray left made t ⌝ }
 {
-    let mut t = 0.0;
-    let mut made: u16 = 0;
-    let crossing = loop {
-        match limited_pass(q, a, semi, vertex, ray, made, t) {
-            Passed::Again(u) => {
-                t = u;
-                made += 1;
+    let mut at = made;
+    let mut u = t;
+    let mut taken: u16 = 0;
+    let passed = loop {
+        taken += 1;
+        let x = limited_pass(q, a, semi, vertex, ray, at, u);
+        match x {
+            Passed::Again(v) => {
+                if taken == left {
+                    break x;
+                }
+                at += 1;
+                u = v;
             }
-            Passed::Given(l) => {
-                break Crossing::Given(l);
+            Passed::Given(_) => {
+                break x;
             }
-            Passed::Refused(e) => {
-                break Crossing::Refused(e);
+            Passed::Refused(_) => {
+                break x;
             }
         }
     };
-    End {
-        crossing,
-        passes: made + 1,
+    Progress { passed, taken }
+}
+
+// The Rust's intersect_ray of these kinds.
+pub(crate) fn newton(q: Profile, a: Polynomial, semi: f64, vertex: f64, ray: Ray) -> Crossing
+    ensures { λ x. ⌜ toldCrossing x ≡ newtonEnd (shapeOf q a semi) vertex ray .answer ⌝ }
+{
+    let end = newton_chain(q, a, semi, vertex, ray, profile_limit(q), 0, 0.0);
+    let passed = end.passed;
+    match passed {
+        Passed::Given(l) => Crossing::Given(l),
+        Passed::Refused(e) => Crossing::Refused(e),
+        // The last pass that is allowed ends.
+        Passed::Again(_) => Crossing::Refused(Refusal::RayMissedSurface),
     }
 }
 

@@ -1,7 +1,7 @@
 // The kinds of surfaces together, and the two functions that a trace over any of them calls.
 ghost use mathlib.Core.Path.{_≡_};
-ghost use Rattle.surfaces.specs.Refusal.{toldDirection, toldPassed, toldTurned};
-ghost use Rattle.surfaces.specs.Surface.{conicOf, passAnswer, limitOf, surfaceNormal, onwardFrom, turnAnswer};
+ghost use Rattle.surfaces.specs.Refusal.{toldDirection, toldProgress, toldTurned};
+ghost use Rattle.surfaces.specs.Surface.{conicOf, chain, limitOf, surfaceNormal, onwardFrom, turnAnswer};
 ghost use Rattle.surfaces.specs.Parts.{familyOf};
 use crate::asphere::raw_even_normal;
 use crate::asphere::raw_odd_normal;
@@ -12,8 +12,9 @@ use crate::conic::conic_crossing;
 use crate::conic::normal_at;
 use crate::newton::Passed;
 use crate::newton::Profile;
+use crate::newton::Progress;
 use crate::newton::ended;
-use crate::newton::limited_pass;
+use crate::newton::newton_chain;
 use crate::newton::profile_limit;
 use crate::refusal::Direction;
 use crate::refusal::Refusal;
@@ -71,15 +72,25 @@ fn family_of(kind: Kind) -> Family
     }
 }
 
-// One pass of a trace over a surface, `made` passes after the first; a conic is met in one.
-pub fn pass(s: Surface, ray: Ray, made: u16, t: f64) -> Passed
-    ensures { λ x. ⌜ toldPassed x ≡ passAnswer s ray made t ⌝ }
+// At most `left` passes of a trace over a surface, one after another until one ends, after `made` of them. A conic is
+// met in one.
+pub fn chain(s: Surface, ray: Ray, left: u16, made: u16, t: f64) -> Progress
+    ensures { λ e. ⌜ toldProgress made e ≡ chain s ray left made t ⌝ }
 {
+    if left == 0 {
+        return Progress {
+            passed: Passed::Again(t),
+            taken: 0,
+        };
+    }
     let a = s.polynomial;
     let kind = s.kind;
     match family_of(kind) {
-        Family::Conic { c, k } => ended(conic_crossing(ray, conic_of(s, c, k))),
-        Family::Newton(q) => limited_pass(q, a, s.semi, s.vertex, ray, made, t),
+        Family::Conic { c, k } => Progress {
+            passed: ended(conic_crossing(ray, conic_of(s, c, k))),
+            taken: 1,
+        },
+        Family::Newton(q) => newton_chain(q, a, s.semi, s.vertex, ray, left, made, t),
     }
 }
 

@@ -8,7 +8,7 @@ use lib.Ieee.{Float}
 use Rattle.numbers.specs.Arithmetic.{if_then_else_}
 use Rattle.surfaces.specs.Refusal.{Told, Ended, ended, done, stops}
 use Rattle.surfaces.specs.Newton.{going}
-use Rattle.surfaces.specs.Surface.{passAnswer, surfaceEnd, limitOf, chain}
+use Rattle.surfaces.specs.Surface.{passAnswer, surfaceEnd, limitOf, chainBy, chain}
 use Rattle.surfaces.specs.declared.types.Ray.{Ray}
 use Rattle.surfaces.specs.declared.types.Landing.{Landing}
 use Rattle.surfaces.specs.declared.surface.Surface.{Surface}
@@ -50,7 +50,7 @@ module _ (s : Surface) (ray : Ray) where
 
   from-chain : (n made : ℕ) (t : Float) → going (chain s ray n made t .answer) ≡ false
       → Ends made t (chain s ray n made t)
-  unfolding chain
+  unfolding chainBy passAnswer
   from-chain zero made t h = absurd (false≢true (sym h))
   from-chain (suc n) made t h =
       turn n made t (going (passAnswer s ray made t)) refl

@@ -13,7 +13,7 @@ use borrow.Author.Tests.{ne-eqb}
 use Rattle.numbers.specs.Arithmetic.{0f}
 use Rattle.surfaces.specs.Refusal.{Told}
 use Rattle.surfaces.specs.Newton.{going}
-use Rattle.surfaces.specs.Surface.{passAnswer, chain}
+use Rattle.surfaces.specs.Surface.{passAnswer, chainBy, chain}
 use Rattle.surfaces.specs.declared.types.Landing.{Landing}
 use Rattle.recipe.specs.declared.record.Optic.{Optic}
 use Rattle.recipe.specs.Scan.{Item, itemAt}
@@ -84,7 +84,7 @@ module _ (l : List Item) (k place : ℕ) (b : Beam) (z : List Float) where
       → (steps n : ℕ) → n < more
       → advance l n (held (midway k place b made t steps) z)
       ≡ held (midway k place b (made + n) (chain (o .surface) (b .ray) n made t .answer .value .t) (steps + n)) z
-  unfolding advance chain
+  unfolding advance chainBy passAnswer
   waits {made} p steps zero h = rw (add-zero made, add-zero steps)
   waits (last e) steps (suc n) h = absurd (omega arith)
   waits {made} {t} (goes e p) steps (suc n) h =

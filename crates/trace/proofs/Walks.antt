@@ -1,18 +1,18 @@
 -- A walk over surfaces with the passes inside: what it relies on, and that it goes as far as it is allowed to. Assumes
 -- nothing.
-use Prim.Native.Nat.{ℕ, suc, _+_, _-_, _*_, _≤_, _<_, zero-le}
+use Prim.Native.Nat.{ℕ, zero, suc, _+_, _-_, _*_, _≤_, _<_, zero-le}
 use mathlib.Core.Path.{_≡_, refl, sym, _∙_, ap, subst}
 use mathlib.Core.List.{List}
-use mathlib.Core.Bool.{true, false}
+use mathlib.Core.Bool.{Bool, true, false, false≢true}
 use native.Mathlib.Omega.{arith}
+use native.Mathlib.Numerals.{add-one}
 use lib.ListN.{length}
 use lib.Ieee.{Float}
-use Rattle.surfaces.specs.Refusal.{Told}
+use Rattle.numbers.specs.Arithmetic.{if_then_else_}
+use Rattle.surfaces.specs.Refusal.{Told, Ended, ended, again}
 use Rattle.surfaces.specs.Newton.{going}
-use Rattle.surfaces.specs.Surface.{passAnswer}
-use Rattle.surfaces.specs.declared.types.Ray.{Ray}
+use Rattle.surfaces.specs.Surface.{passAnswer, chainBy, chain}
 use Rattle.surfaces.specs.declared.types.Landing.{Landing}
-use Rattle.surfaces.specs.declared.surface.Surface.{Surface}
 use Rattle.surfaces.proofs.Chains.{limit-bounds}
 use Rattle.recipe.specs.declared.record.ReadRecord.{ReadRecord}
 use Rattle.recipe.specs.Record.{readAt}
@@ -52,6 +52,10 @@ few-passes {l} {s} (walking o n p) = omega (arith, limit-bounds (itemAt l (s .nu
 few-passes (arrived o n p) = omega arith
 few-passes (stopped o n p) = omega arith
 
+-- so many passes on from h: at least one, no more than are left, and no more than any kind may take
+abbrev pub Bounds : Held → ℕ → ℕ → Type 0
+Bounds h left taken = (0 < taken) × (taken ≤ left) × (h .state .passes + taken ≤ 35)
+
 module _ (b : List ℕ) (count : ℕ) where
   abbrev l : List Item
   l = itemsOf b
@@ -63,146 +67,196 @@ module _ (b : List ℕ) (count : ℕ) where
     pub long : length (h .buffer) ≡ length (h₀ .buffer)
     pub steps : h .state .steps + left ≡ h₀ .state .steps + allowed
 
-  -- The pass loop's: so many passes on from h, on the surface that was read, are as so many steps.
-  pub record Passing (h : Held) (left₀ : ℕ) (read : ReadRecord) (surface : Surface) (ray : Ray)
-      (s : State) (made : ℕ) (t : Float) (steps left : ℕ) : Type 0 where
-    pub kept : s ≡ h .state
-    pub item : read
-        ≡ record { number = 1; next = itemAt l (h .state .number) .next; optic = itemAt l (h .state .number) .optic }
-    pub on : surface ≡ itemAt l (h .state .number) .optic .surface
-    pub along : ray ≡ h .state .beam .ray
-    pub same : advance l left₀ h ≡ advance l left (held (pausedAt (h .state) made t steps) (h .buffer))
-    pub fit : Fit l (length b) (pausedAt (h .state) made t steps)
-    pub some : 0 < left
-    pub within : left ≤ left₀
-    pub even : steps + left ≡ h .state .steps + left₀
+  -- So many passes on from h, on its surface, are as so many steps.
+  pub record Passing (h : Held) (left₀ made : ℕ) (t : Float) (steps left : ℕ) : Type 0 where
+    same : advance l left₀ h ≡ advance l left (held (pausedAt (h .state) made t steps) (h .buffer))
+    fit : Fit l (length b) (pausedAt (h .state) made t steps)
+    some : 0 < left
+    within : left ≤ left₀
+    even : steps + left ≡ h .state .steps + left₀
+    level : made + h .state .steps ≡ h .state .passes + steps
 
-  module _ (h : Held) (left : ℕ) (r : Ready b (length (h .buffer)) count (h .state)) (run : h .state .outcome ≡ 0)
-      (some : 0 < left) where
-    number-low : h .state .number < length l
-    number-low = low b l (chain-of b (r .good)) h (r .fit) run
+  -- the record of the surface that h stands on, as it is read
+  abbrev readOf : Held → ReadRecord
+  readOf h =
+      let i = itemAt l (h .state .number) in record { number = 1; next = i .next; optic = i .optic }
 
-    pub begins : (read : ReadRecord) → read ≡ readAt b (h .state .place)
-        → Passing h left read (read .optic .surface) (h .state .beam .ray) (h .state) (h .state .passes) (h .state .t)
-        (h .state .steps) left
-    begins read e =
-        let there = record-there b (chain-of b (r .good)) (h .state .number) number-low in
-        let read-there = good-read b (placeOf l (length b) (h .state .number)) there in
-        let i = e ∙ ap (λ (p : ℕ). readAt b p) (r .fit .place) ∙ read-there in
-        record {
-          kept = refl;
-          item = i;
-          on = ap (λ (q : ReadRecord). q .optic .surface) i;
-          along = refl;
-          same = ap (λ (s : State). advance l left (held s (h .buffer))) (sym (paused-is (h .state) run));
-          fit = subst (λ (s : State). Fit l (length b) s) (sym (paused-is (h .state) run)) (r .fit);
-          some = some;
-          within = omega arith;
-          even = refl;
-        }
+  -- the pass after so many from h, and so many more
+  abbrev pass : Held → ℕ → Float → Told Landing
+  pass h made t = passAnswer (itemAt l (h .state .number) .optic .surface) (h .state .beam .ray) made t
 
-  module _ {h : Held} {left₀ : ℕ} {read : ReadRecord} {surface : Surface} {ray : Ray}
-      {s : State} {made : ℕ} {t : Float} {steps left : ℕ}
-      (p : Passing h left₀ read surface ray s made t steps left) (good : recipeOf b ≡ items (itemsOf b)) where
-    abbrev now : Held
-    now = held (pausedAt (h .state) made t steps) (h .buffer)
+  abbrev passes : Held → ℕ → ℕ → Float → Ended
+  passes h n made t = chain (itemAt l (h .state .number) .optic .surface) (h .state .beam .ray) n made t
 
-    pub made-few : made < 35
-    unfolding pausedAt
-    made-few = few-passes (p .fit .stands)
+  -- How the passes that are allowed end: with another to come, or with the surface.
+  pub data Came (h : Held) (left₀ : ℕ) : Ended → Type 0 where
+    waits : {made : ℕ} {t : Float} {steps : ℕ} → Passing h left₀ made t steps 1 → going (pass h made t) ≡ true
+        → Came h left₀ (ended (again (pass h made t .value .t)) (suc made))
+    ends : {made : ℕ} {t : Float} {steps left : ℕ} → Passing h left₀ made t steps left → going (pass h made t) ≡ false
+        → Came h left₀ (ended (pass h made t) (suc made))
 
-    started : now .state .outcome ≡ 0
-    unfolding pausedAt
-    started = refl
+  module _ (good : recipeOf b ≡ items (itemsOf b)) where
+    module _ {h : Held} {left₀ made : ℕ} {t : Float} {steps left : ℕ} (p : Passing h left₀ made t steps left) where
+      abbrev now : Held
+      now = held (pausedAt (h .state) made t steps) (h .buffer)
 
-    -- where the record of the surface goes
-    pub room : Ready b (length (h .buffer)) count (h .state)
-        → (width * s .number + width ≤ length (h .buffer)) × (s .number < count)
-    unfolding pausedAt
-    room r =
-        let n = low b l (chain-of b good) now (p .fit) started in
-        let k = ap (λ (q : State). q .number) (p .kept) in
-        let c = r .counted in
-        let f = r .fits in
-        (omega arith, omega arith)
+      made-few : made < 35
+      unfolding pausedAt
+      made-few = few-passes (p .fit .stands)
 
-    less : left ≡ suc (left - 1)
-    less = let s = p .some in omega arith
+      started : now .state .outcome ≡ 0
+      unfolding pausedAt
+      started = refl
 
-    -- a step on
-    on-by : (g : Held) → move l now ≡ g → advance l left₀ h ≡ advance l (left - 1) g
-    unfolding advance
-    on-by g e = p .same ∙ ap (λ (n : ℕ). advance l n now) less ∙ ap (λ (k : Held). advance l (left - 1) k) e
+      -- a step on
+      on-by : (g : Held) → move l now ≡ g → advance l left₀ h ≡ advance l (left - 1) g
+      unfolding advance
+      on-by g e =
+          let less : left ≡ suc (left - 1) = omega (arith, p .some) in
+          p .same ∙ ap (λ (n : ℕ). advance l n now) less ∙ ap (λ (k : Held). advance l (left - 1) k) e
 
-    module _ (x : Told Landing) (e : x ≡ passAnswer surface ray made t) where
-      here : x ≡ passAnswer (itemAt l (h .state .number) .optic .surface) (h .state .beam .ray) made t
-      here =
-          e ∙ ap (λ (f : Surface). passAnswer f ray made t) (p .on)
-          ∙ ap (λ (q : Ray). passAnswer (itemAt l (h .state .number) .optic .surface) q made t) (p .along)
+      goes : going (pass h made t) ≡ true
+          → move l now ≡ held (pausedAt (h .state) (made + 1) (pass h made t .value .t) (steps + 1)) (h .buffer)
+      unfolding move stepOn pausedAt
+      goes g = rw g
 
-      module _ (g : going x ≡ true) where
-        abbrev after-pass : Held
-        after-pass = held (pausedAt (h .state) (made + 1) (x .value .t) (steps + 1)) (h .buffer)
+      more : going (pass h made t) ≡ true → 0 < left - 1
+          → Passing h left₀ (made + 1) (pass h made t .value .t) (steps + 1) (left - 1)
+      more g some =
+          record {
+            same = on-by _ (goes g);
+            fit =
+                subst (λ (k : Held). Fit l (length b) (k .state)) (goes g)
+                (fit-move b l (chain-of b good) now (p .fit) started);
+            some = some;
+            within = omega (arith, p .within);
+            even = omega (arith, p .even, p .some);
+            level = omega (arith, p .level);
+          }
 
-        goes : move l now ≡ after-pass
-        unfolding move stepOn pausedAt
-        goes = rw (← here, g)
-
-        pub more : 0 < left - 1 → Passing h left₀ read surface ray s (made + 1) (x .value .t) (steps + 1) (left - 1)
-        more some =
-            record {
-              kept = p .kept;
-              item = p .item;
-              on = p .on;
-              along = p .along;
-              same = on-by _ goes;
-              fit =
-                  subst (λ (k : Held). Fit l (length b) (k .state)) goes
-                  (fit-move b l (chain-of b good) now (p .fit) started);
-              some = some;
-              within = let a = p .within in omega arith;
-              even = let a = p .even in let c = p .some in omega arith;
-            }
-
-        pub pauses : left - 1 ≡ 0
-            → held (pausedAt s (made + 1) (x .value .t) (steps + 1)) (h .buffer) ≡ advance l left₀ h
-        unfolding advance
-        pauses z =
-            ap (λ (q : State). held (pausedAt q (made + 1) (x .value .t) (steps + 1)) (h .buffer)) (p .kept)
-            ∙ sym (on-by _ goes ∙ ap (λ (n : ℕ). advance l n after-pass) z)
-
-      module _ (g : going x ≡ false) (g' : Held)
-          (left-by : g' ≡ surfaceLeft (held s (h .buffer)) (read .next) count (read .optic) x (made + 1) (steps + 1))
-          (counted : count ≡ length l) where
-        leaves : move l now ≡ g'
+      -- the surface's end, with a record that was read where it stands
+      module _ (g : going (pass h made t) ≡ false) (counted : count ≡ length l) {read : ReadRecord}
+          (i : read ≡ readOf h) (h' : Held)
+          (by : h' ≡ surfaceLeft h (read .next) count (read .optic) (pass h made t) (made + 1) (steps + 1)) where
+        off : move l now ≡ h'
         unfolding move stepOn surfaceLeft stateAfter pausedAt
-        leaves = rw (← here, g, left-by, p .kept, p .item, counted)
+        off = rw (g, by, i, counted)
 
-        pub after-leave : {allowed : ℕ} {h₀ : Held} → Runs allowed h₀ h left₀ → Runs allowed h₀ g' (left - 1)
+        after-leave : {allowed : ℕ} {h₀ : Held} → Runs allowed h₀ h left₀ → Runs allowed h₀ h' (left - 1)
         unfolding pausedAt
         after-leave r =
             record {
-              same = r .same ∙ on-by g' leaves;
+              same = r .same ∙ on-by h' off;
               ready = record {
                 good = good;
                 counted = counted;
-                fits = let a = same-length in let f = r .ready .fits in omega arith;
+                fits = omega (arith, same-length, r .ready .fits);
                 fit =
-                    subst (λ (k : Held). Fit l (length b) (k .state)) leaves
+                    subst (λ (k : Held). Fit l (length b) (k .state)) off
                     (fit-move b l (chain-of b good) now (p .fit) started);
               };
               long = same-length ∙ r .long;
-              steps = let a = same-steps in let c = r .steps in let d = p .even in let f = p .some in omega arith;
+              steps = omega (arith, same-steps, r .steps, p .even, p .some);
             }
           where
-            same-length : length (g' .buffer) ≡ length (h .buffer)
+            same-length : length (h' .buffer) ≡ length (h .buffer)
             same-length =
-                ap (λ (k : Held). length (k .buffer)) (sym leaves)
+                ap (λ (k : Held). length (k .buffer)) (sym off)
                 ∙ length-move b l (chain-of b good) now (p .fit) started
 
-            same-steps : g' .state .steps ≡ steps + 1
+            same-steps : h' .state .steps ≡ steps + 1
             same-steps =
-                ap (λ (k : Held). k .state .steps) (sym leaves) ∙ steps-move b l (chain-of b good) now (p .fit) started
+                ap (λ (k : Held). k .state .steps) (sym off) ∙ steps-move b l (chain-of b good) now (p .fit) started
+
+    -- after a pass, by whether it goes on
+    turn : {h : Held} {left₀ n made : ℕ} {t : Float} {steps : ℕ} → Passing h left₀ made t steps (suc n) → (g : Bool)
+        → going (pass h made t) ≡ g → (g ≡ true → Came h left₀ (passes h n (suc made) (pass h made t .value .t)))
+        → Came h left₀
+        (if g then passes h n (suc made) (pass h made t .value .t) else ended (pass h made t) (suc made))
+    turn p true e rest = rest refl
+    turn p false e rest = ends p e
+
+    comes : {h : Held} {left₀ : ℕ} (n : ℕ) {made : ℕ} {t : Float} {steps : ℕ} → Passing h left₀ made t steps (suc n)
+        → Came h left₀ (passes h (suc n) made t)
+    unfolding chainBy passAnswer
+    comes zero p = turn p _ refl (λ g. waits p g)
+    comes (suc n) {made} {t} {steps} p =
+        turn p _ refl (λ g.
+        let less : suc (suc n) - 1 ≡ suc n = omega arith in
+        comes n (rw (add-one made, add-one steps, less) at (more p g (omega arith))))
+
+    module _ {h : Held} {left₀ : ℕ} where
+      -- so many passes were taken
+      module _ (taken : ℕ) where
+        bounds-at : {made : ℕ} {t : Float} {steps left : ℕ} → Passing h left₀ made t steps left
+            → suc made ≡ h .state .passes + taken → Bounds h left₀ taken
+        bounds-at p k = (
+          omega (arith, p .within, p .even, p .level, k),
+          omega (arith, p .some, p .even, p .level, k),
+          omega (arith, made-few p, k),
+        )
+
+        pub bounds : {e : Ended} → Came h left₀ e → e .passes ≡ h .state .passes + taken → Bounds h left₀ taken
+        bounds (waits p g) k = bounds-at p k
+        bounds (ends p g) k = bounds-at p k
+
+        pub pauses : {e : Ended} → Came h left₀ e → e .passes ≡ h .state .passes + taken → going (e .answer) ≡ true
+            → held (pausedAt (h .state) (h .state .passes + taken) (e .answer .value .t) (h .state .steps + taken))
+            (h .buffer)
+            ≡ advance l left₀ h
+        unfolding advance
+        pauses (waits {made} {t} {steps} p g) k _ =
+            let m : h .state .passes + taken ≡ made + 1 = omega (arith, k) in
+            let n : h .state .steps + taken ≡ steps + 1 = omega (arith, p .level, k) in
+            rw (m, n) (sym (on-by p _ (goes p g)))
+        pauses (ends p g) k w = absurd (false≢true (sym g ∙ w))
+
+        pub leaves : {e : Ended} → Came h left₀ e → e .passes ≡ h .state .passes + taken → going (e .answer) ≡ false
+            → {read : ReadRecord} → read ≡ readOf h → (h' : Held)
+            → h' ≡ surfaceLeft h (read .next) count (read .optic) (e .answer) (h .state .passes + taken)
+            (h .state .steps + taken)
+            → {allowed : ℕ} {h₀ : Held} → Runs allowed h₀ h left₀ → Runs allowed h₀ h' (left₀ - taken)
+        leaves (waits p g) k w i h' by r = absurd (false≢true (sym w))
+        leaves (ends {made} {t} {steps} {left} p g) k w i h' by r =
+            let m : h .state .passes + taken ≡ made + 1 = omega (arith, k) in
+            let n : h .state .steps + taken ≡ steps + 1 = omega (arith, p .level, k) in
+            let d : left₀ - taken ≡ left - 1 = omega (arith, p .some, p .even, p .level, k) in
+            rw d (after-leave p g (r .ready .counted) i h' (rw (m, n) at by) r)
+
+    module _ (h : Held) (left : ℕ) (r : Ready b (length (h .buffer)) count (h .state)) (run : h .state .outcome ≡ 0)
+        (some : 0 < left) where
+      number-low : h .state .number < length l
+      number-low = low b l (chain-of b good) h (r .fit) run
+
+      pub read-is : (read : ReadRecord) → read ≡ readAt b (h .state .place) → read ≡ readOf h
+      read-is read e =
+          let there = record-there b (chain-of b good) (h .state .number) number-low in
+          e ∙ ap (λ (p : ℕ). readAt b p) (r .fit .place)
+          ∙ good-read b (placeOf l (length b) (h .state .number)) there
+
+      -- where the record of the surface goes
+      pub room : (width * h .state .number + width ≤ length (h .buffer)) × (h .state .number < count)
+      room = (omega (arith, number-low, r .counted, r .fits), omega (arith, number-low, r .counted))
+
+      pub came : (read : ReadRecord) → read ≡ readAt b (h .state .place)
+          → Came h left (chain (read .optic .surface) (h .state .beam .ray) left (h .state .passes) (h .state .t))
+      came read e =
+          let less : suc (left - 1) ≡ left = omega (arith, some) in
+          rw (read-is read e)
+          (subst (λ (n : ℕ). Came h left (passes h n (h .state .passes) (h .state .t))) less
+          (comes (left - 1)
+          (subst (λ (n : ℕ). Passing h left (h .state .passes) (h .state .t) (h .state .steps) n) (sym less) begun)))
+        where
+          begun : Passing h left (h .state .passes) (h .state .t) (h .state .steps) left
+          begun =
+              record {
+                same = ap (λ (s : State). advance l left (held s (h .buffer))) (sym (paused-is (h .state) run));
+                fit = subst (λ (s : State). Fit l (length b) s) (sym (paused-is (h .state) run)) (r .fit);
+                some = some;
+                within = omega arith;
+                even = refl;
+                level = refl;
+              }
 
   module _ {allowed : ℕ} {h₀ h : Held} {left : ℕ} (r : Runs allowed h₀ h left) where
     pub runs-done : left ≤ 0 → h ≡ advance l allowed h₀

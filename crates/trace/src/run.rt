@@ -28,8 +28,8 @@ use surfaces::Crossing;
 use surfaces::Passed;
 use surfaces::Ray;
 use surfaces::SINGULAR;
+use surfaces::chain;
 use surfaces::no_ray;
-use surfaces::pass;
 use surfaces::ray_finite;
 
 // The numbers of the table (SCOPE T1) that a call adds.
@@ -113,30 +113,20 @@ fn walk(state: State, recipe: &[u8], buf: &mut [f64], count: usize, allowed: u16
         let surface = optic.surface;
         let beam = s.beam;
         let ray = beam.ray;
-        let mut made = s.passes;
-        let mut t = s.t;
-        let mut steps = s.steps;
-        let crossing = loop {
-            steps += 1;
-            left -= 1;
-            match pass(surface, ray, made, t) {
-                Passed::Again(u) => {
-                    made += 1;
-                    t = u;
-                    if left == 0 {
-                        s = s.paused(made, t, steps);
-                        break 'surfaces;
-                    }
-                }
-                Passed::Given(l) => {
-                    break Crossing::Given(l);
-                }
-                Passed::Refused(e) => {
-                    break Crossing::Refused(e);
-                }
+        let progress = chain(surface, ray, left, s.passes, s.t);
+        left -= progress.taken;
+        let passes = s.passes + progress.taken;
+        let steps = s.steps + progress.taken as usize;
+        let passed = progress.passed;
+        let crossing = match passed {
+            Passed::Again(t) => {
+                s = s.paused(passes, t, steps);
+                break 'surfaces;
             }
+            Passed::Given(l) => Crossing::Given(l),
+            Passed::Refused(e) => Crossing::Refused(e),
         };
-        s = leave(s, buf, read, count, crossing, made + 1, steps);
+        s = leave(s, buf, read, count, crossing, passes, steps);
     }
     s
 }

@@ -8,7 +8,7 @@ use lib.ListN.{length, take}
 use lib.Seq.{getD-take, length-take-le}
 use lib.Dec.{eqb, leb, lit≤}
 use borrow.Author.Tests.{eqb-true, leb-true, leb-false, le-leb, lt-leb}
-use Rattle.recipe.specs.Endian.{u16At, u64At, numberAt, numbersAt}
+use Rattle.recipe.specs.Endian.{u16At, u32At, u64At, numberAt, numbersAt}
 use Rattle.recipe.specs.Record.{Read, bad, good, lengthAt, kindAt, endAt, slotAt, lengthFits, formedAt, longest}
 use Rattle.recipe.specs.Record.{shapedAt, semiSlot, kindOf, oddCount, evenCount, coefficientsAt, opticAt}
 use Rattle.recipe.specs.Record.{recordAt}
@@ -35,15 +35,13 @@ module _ (b : List ℕ) (n : ℕ) where
   unfolding u16At
   u16-take at h = rw (getD-take n b at 0 (omega arith), getD-take n b (at + 1) 0 (omega arith))
 
+  u32-take : (at : ℕ) → at + 4 ≤ n → u32At (take n b) at ≡ u32At b at
+  unfolding u32At
+  u32-take at h = rw (u16-take at (omega arith), u16-take (at + 2) (omega arith))
+
   number-take : (at : ℕ) → at + 8 ≤ n → numberAt (take n b) at ≡ numberAt b at
   unfolding numberAt u64At
-  number-take at h =
-      rw (
-        u16-take at (omega arith),
-        u16-take (at + 2) (omega arith),
-        u16-take (at + 4) (omega arith),
-        u16-take (at + 6) (omega arith),
-      )
+  number-take at h = rw (u32-take at (omega arith), u32-take (at + 4) (omega arith))
 
   numbers-take : (at k : ℕ) → at + 8 * k ≤ n → numbersAt (take n b) at k ≡ numbersAt b at k
   unfolding numbersAt

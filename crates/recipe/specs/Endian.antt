@@ -7,8 +7,11 @@ use lib.Ieee.{Float, binary64, ofBits}
 unfoldable pub u16At : List ℕ → ℕ → ℕ
 u16At b at = getD b at 0 + 256 * getD b (at + 1) 0
 
+unfoldable pub u32At : List ℕ → ℕ → ℕ
+u32At b at = u16At b at + 65536 * u16At b (at + 2)
+
 unfoldable pub u64At : List ℕ → ℕ → ℕ
-u64At b at = u16At b at + 65536 * (u16At b (at + 2) + 65536 * (u16At b (at + 4) + 65536 * u16At b (at + 6)))
+u64At b at = u32At b at + 4294967296 * u32At b (at + 4)
 
 unfoldable pub numberAt : List ℕ → ℕ → Float
 numberAt b at = ofBits binary64 (u64At b at)

@@ -4,7 +4,7 @@ ghost use lib.ListN.{length};
 ghost use Prim.Native.Nat.{_+_, _*_, _≤_, _<_};
 ghost use lib.Ieee.Scale.{finite};
 ghost use Rattle.surfaces.specs.Types.{everyFinite};
-ghost use Rattle.recipe.specs.Endian.{u16At, u64At, numberAt, numbersAt};
+ghost use Rattle.recipe.specs.Endian.{u16At, u32At, u64At, numberAt, numbersAt};
 use numbers::from_bits;
 
 // How many bytes a number takes.
@@ -17,15 +17,23 @@ pub(crate) fn u16_at(s: &[u8], at: usize) -> usize
     s[at] as usize + 256 * (s[at + 1] as usize)
 }
 
+fn u32_at(s: &[u8], at: usize) -> u64
+    requires { ⌜ at + 4 ≤ length (now s) ⌝ }
+    ensures { λ r. ⌜ (r ≡ u32At (now (s .entry)) at) × (r < 4294967296) ⌝ }
+{
+    let low = u16_at(s, at) as u64;
+    let high = u16_at(s, at + 2) as u64;
+    low + 65536 * high
+}
+
+// By halves, of which the compiler makes one load.
 fn u64_at(s: &[u8], at: usize) -> u64
     requires { ⌜ at + 8 ≤ length (now s) ⌝ }
     ensures { λ r. ⌜ r ≡ u64At (now (s .entry)) at ⌝ }
 {
-    let a = u16_at(s, at) as u64;
-    let b = u16_at(s, at + 2) as u64;
-    let c = u16_at(s, at + 4) as u64;
-    let d = u16_at(s, at + 6) as u64;
-    a + 65536 * (b + 65536 * (c + 65536 * d))
+    let low = u32_at(s, at);
+    let high = u32_at(s, at + 4);
+    low + 4294967296 * high
 }
 
 pub(crate) fn number_at(s: &[u8], at: usize) -> f64

@@ -15,7 +15,7 @@ use Rattle.surfaces.specs.Conic.{landedWithin, planeCrossing, conicCrossing, co
 use Rattle.surfaces.specs.Surface.{passAnswer, limitOf, surfaceNormal, onwardFrom, turnAnswer}
 use Rattle.surfaces.specs.Edges.{_over_, whole, bits, Case, _⇒_, agree}
 use Rattle.surfaces.specs.declared.types.Ray.{Ray}
-use Rattle.recipe.specs.Endian.{u16At, u64At, numberAt, numbersAt}
+use Rattle.recipe.specs.Endian.{u16At, u32At, u64At, numberAt, numbersAt}
 use Rattle.recipe.specs.Record.{slotAt, lengthFits, formedAt, shapedAt, semiSlot, kindOf, oddCount, evenCount}
 use Rattle.recipe.specs.Record.{coefficientsAt, opticAt, recordAt}
 use Rattle.recipe.specs.Scan.{scan, notes}
@@ -97,8 +97,8 @@ unfolding cases bits _over_ rayOf passesIn outcomeIn stateIn countsOf numbersOf 
     decimal magnitude negative larger clamped infinite root neg round add sub mul div lt le eq isNan ofBits toBits ofInt
     dotOf overOf distance pointAt allFinite rayFinite everyFinite turnedIf negatedIf bent refracted landedWithin
     planeCrossing conicCrossing conicNormal gradientNormal normalAt passAnswer limitOf surfaceNormal onwardFrom
-    turnAnswer u16At u64At numberAt numbersAt slotAt lengthFits formedAt shapedAt semiSlot kindOf oddCount evenCount
-    coefficientsAt opticAt recordAt scan notes boundaryOf share legFinite legOf beamAfter hitRow rowOf stateAfter
-    surfaceLeft stepOn move advance outcomeKnown placeFits passesFit beamGood fitsOf refusedAnswer admission startAt
-    startOf continueOf
+    turnAnswer u16At u32At u64At numberAt numbersAt slotAt lengthFits formedAt shapedAt semiSlot kindOf oddCount
+    evenCount coefficientsAt opticAt recordAt scan notes boundaryOf share legFinite legOf beamAfter hitRow rowOf
+    stateAfter surfaceLeft stepOn move advance outcomeKnown placeFits passesFit beamGood fitsOf refusedAnswer admission
+    startAt startOf continueOf
 each-case = refl

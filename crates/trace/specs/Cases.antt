@@ -21,7 +21,7 @@ use Rattle.surfaces.specs.Asphere.{oddBaseSlope, oddSlope, oddOnAxis, oddSlopes
 use Rattle.surfaces.specs.Surface.{passAnswer, surfaceEnd, limitOf, surfaceNormal, onwardFrom, turnAnswer}
 use Rattle.surfaces.specs.Edges.{_over_, whole, bits, coordinates, Case, _⇒_, agree, ray}
 use Rattle.surfaces.specs.declared.types.Vec3.{Vec3}
-use Rattle.recipe.specs.Endian.{u16At, u64At, numberAt, numbersAt}
+use Rattle.recipe.specs.Endian.{u16At, u32At, u64At, numberAt, numbersAt}
 use Rattle.recipe.specs.Record.{slotAt, lengthFits, formedAt, shapedAt, semiSlot, kindOf, oddCount, evenCount}
 use Rattle.recipe.specs.Record.{coefficientsAt, opticAt, negativeSemi, recordAt}
 use Rattle.recipe.specs.Scan.{scan, placeOf, notes}
@@ -283,9 +283,9 @@ unfolding cases lens folded narrow on answered bits _over_ bytes patterns beamRe
     planeCrossing conicCrossing normalAt arrivedAt movedBy passAt vertexPlane passesFrom newtonEnd passStart nextPass
     limitedPass powerSumFrom slopeSumFrom baseSag baseSlope evenSag evenSlope radialSlopes evenSlopes lengthOf facingOf
     normalOf evenFacing evenNormal oddSag oddBaseSlope oddSlope oddOnAxis oddSlopesAt oddNormal oddSlopes passAnswer
-    surfaceEnd limitOf surfaceNormal onwardFrom turnAnswer u16At u64At numberAt numbersAt slotAt lengthFits formedAt
-    shapedAt semiSlot kindOf oddCount evenCount coefficientsAt opticAt negativeSemi recordAt scan placeOf notes isSource
-    vectorAt sourceOf boundaryOf share legFinite legOf beamAfter hitRow refusalRow rowOf unbroken total rows padded
-    pausedAt stateAfter surfaceLeft stepOn move advance outcomeKnown placeFits passesFit beamGood fitsOf refusedAnswer
-    admission startAt startOf startFileOf continueOf wholeOf
+    surfaceEnd limitOf surfaceNormal onwardFrom turnAnswer u16At u32At u64At numberAt numbersAt slotAt lengthFits
+    formedAt shapedAt semiSlot kindOf oddCount evenCount coefficientsAt opticAt negativeSemi recordAt scan placeOf notes
+    isSource vectorAt sourceOf boundaryOf share legFinite legOf beamAfter hitRow refusalRow rowOf unbroken total rows
+    padded pausedAt stateAfter surfaceLeft stepOn move advance outcomeKnown placeFits passesFit beamGood fitsOf
+    refusedAnswer admission startAt startOf startFileOf continueOf wholeOf
 each-case = refl

@@ -18,7 +18,7 @@ use Rattle.surfaces.specs.Asphere.{powerSumFrom, slopeSumFrom, baseSag, baseSlo
 use Rattle.surfaces.specs.Asphere.{evenSlopes, lengthOf, facingOf, evenFacing, evenNormal}
 use Rattle.surfaces.specs.Edges.{Case, _⇒_, agree}
 use Rattle.surfaces.specs.Surface.{surfaceEnd, surfaceNormal, onwardFrom, turnAnswer}
-use Rattle.recipe.specs.Endian.{u16At, u64At, numberAt, numbersAt}
+use Rattle.recipe.specs.Endian.{u16At, u32At, u64At, numberAt, numbersAt}
 use Rattle.recipe.specs.Record.{slotAt, lengthFits, formedAt, shapedAt, semiSlot, kindOf, oddCount, evenCount}
 use Rattle.recipe.specs.Record.{coefficientsAt, opticAt, negativeSemi, recordAt}
 use Rattle.recipe.specs.Scan.{scan}
@@ -108,9 +108,9 @@ unfolding cases recordOf offAxis pane bowl inverted noIndex _&_ lined ofBits toB
     allFinite rayFinite everyFinite turnedIf negatedIf bent refracted landedWithin planeCrossing conicCrossing
     conicNormal gradientNormal normalAt arrivedAt movedBy passAt vertexPlane passesFrom newtonEnd powerSumFrom
     slopeSumFrom edgeRoot baseSag baseSlope evenSag evenSlope radialSlopes evenSlopes lengthOf facingOf evenFacing
-    evenNormal surfaceEnd surfaceNormal onwardFrom turnAnswer u16At u64At numberAt numbersAt slotAt lengthFits formedAt
-    shapedAt semiSlot kindOf oddCount evenCount coefficientsAt opticAt negativeSemi recordAt scan isSource vectorAt
-    sourceOf glyph hexText decimalText boundaryOf share legFinite legOf beamAfter hitRow refusalRow rowOf unbroken total
-    refusedAnswer admission startAt startFileOf traceOf bytes patterns beamRecord planeRecord ascii line recordLine
-    recordLines endLine refusedLine traceLines listing
+    evenNormal surfaceEnd surfaceNormal onwardFrom turnAnswer u16At u32At u64At numberAt numbersAt slotAt lengthFits
+    formedAt shapedAt semiSlot kindOf oddCount evenCount coefficientsAt opticAt negativeSemi recordAt scan isSource
+    vectorAt sourceOf glyph hexText decimalText boundaryOf share legFinite legOf beamAfter hitRow refusalRow rowOf
+    unbroken total refusedAnswer admission startAt startFileOf traceOf bytes patterns beamRecord planeRecord ascii line
+    recordLine recordLines endLine refusedLine traceLines listing
 each-case = refl

@@ -13,15 +13,5 @@ u64-at-spec =
     (λ c. search needs)
     (λ c κs. search needs)
     (λ c. search needs)
-    (λ c κs. search needs)
     (λ c. search needs)
-    (λ c κs. search needs)
-    (λ c. search needs)
-    (λ c. search needs)
-    (λ c. search needs)
-    (λ c. search needs)
-    (λ c. search needs)
-    (λ c. search needs)
-    (λ c.
-    let c1 = c .before in let c2 = c1 .before in let c3 = c2 .before in
-    rw (← c3 .u16-at .ensures .0, ← c2 .u16-at2 .ensures .0, ← c1 .u16-at3 .ensures .0, ← c .u16-at4 .ensures .0)))
+    (λ c. let c1 = c .before in rw (← c1 .u32-at .ensures .0, ← c .u32-at2 .ensures .0)))

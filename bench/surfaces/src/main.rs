@@ -8,7 +8,7 @@ mod rows;
 use std::hint::black_box;
 
 use conic::{ConicSurface, intersect_conic};
-use rows::{Numbers, Sequence, numbers, ray, row};
+use rows::{Numbers, Sequence, numbers, ray, row, wanted};
 use snell::snell_refract;
 use surface::asphere::EvenAsphere;
 use surface::biconic::{BiconicSurface, ToroidalSurface};
@@ -73,7 +73,9 @@ fn rays() -> Vec<Numbers> {
 
 fn main() {
     let rays = rays();
-    println!("{:26} waiting, rushing", "ratio to the Rust");
+    if wanted().is_none() {
+        println!("{:26} waiting, rushing", "ratio to the Rust");
+    }
     for (name, c, k) in [("plane", 0.0, 0.0), ("conic", 0.02, -0.5)] {
         let s = ConicSurface { vertex_z: 0.0, curvature: c, conic_constant: k, semi_diam_mm: 8.0 };
         let mut ours = |r: &Numbers| measured_conic(r[0], r[1], r[2], r[3], r[4], r[5], 0.0, c, k, 8.0);

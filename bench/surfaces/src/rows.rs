@@ -2,9 +2,10 @@
 //!
 //! A row goes through its rays, origin and direction of each waiting for the last answer, as in a trace; then without
 //! waiting. The two sides take turns, PASSES times, and the least time of each counts. Their answers have to be the
-//! same bits.
+//! same bits. Each row has a process of its own, since what one leaves in the branch predictor shows in the next.
 
 use std::hint::black_box;
+use std::process::Command;
 use std::time::Instant;
 
 use crate::types::{Ray, Vec3};
@@ -76,10 +77,23 @@ pub fn least<const N: usize>(mut turn: impl FnMut(usize)) -> [f64; N] {
     least
 }
 
+/// The name of the one row that this process measures; none where it measures all, each in a process of its own.
+pub fn wanted() -> Option<String> {
+    std::env::args().nth(1)
+}
+
 pub fn row(name: &str, rays: &[Numbers], ours: Side, rust: Side) {
-    if std::env::args().nth(1).is_some_and(|wanted| wanted != name) {
-        return;
+    match wanted() {
+        None => {
+            let program = std::env::current_exe().unwrap();
+            assert!(Command::new(program).arg(name).status().unwrap().success(), "{name}: no row");
+        }
+        Some(wanted) if wanted == name => measure(name, rays, ours, rust),
+        Some(_) => {}
     }
+}
+
+fn measure(name: &str, rays: &[Numbers], ours: Side, rust: Side) {
     let hits = rays.iter().filter(|r| {
         let answer = ours(r);
         assert_eq!(answer.to_bits(), rust(r).to_bits(), "{name}: other numbers at {r:?}");

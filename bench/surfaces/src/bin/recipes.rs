@@ -19,7 +19,7 @@ use pilingrue::{
     BLANK, Beam, COUNTS, HIT, KIND_CONIC, KIND_EVEN_ASPHERE, KIND_MIRROR, MOST_RECORDS, NUMBERS, RECORD_NUMBERS,
     RECORD_STATUS, RECORD_STEPS, State, Trace,
 };
-use rows::{Numbers, Sequence, least, numbers, ray, row};
+use rows::{Numbers, Sequence, least, numbers, ray, row, wanted};
 use snell::{reflect, snell_refract};
 use surface::asphere::EvenAsphere;
 use types::{Ray, Vec3};
@@ -221,12 +221,16 @@ fn by_passes() {
 fn main() {
     let folder = std::env::var("LENSES").expect("LENSES names the folder with the lenses");
     let lens = |name: &str| std::fs::read(Path::new(&folder).join(name)).unwrap();
-    println!("{:26} waiting, rushing", "whole recipes");
+    if wanted().is_none() {
+        println!("{:26} waiting, rushing", "whole recipes");
+    }
     whole("doublet", &lens("doublet"), -20.0, 11.0, 0.02);
     whole("phone lens", &lens("phone"), -1.0, 0.8, 0.3);
     let relay = lens("relay");
     whole("512 conics", &relay, -5.0, 8.0, 0.02);
-    by_records(&relay, relay.len() / MOST_RECORDS);
-    by_coefficients();
-    by_passes();
+    if wanted().is_none() {
+        by_records(&relay, relay.len() / MOST_RECORDS);
+        by_coefficients();
+        by_passes();
+    }
 }

@@ -381,15 +381,22 @@ static int traps(unsigned unmasked, const recipe *r, const double beam[BEAM]) {
     return child > 0 && waitpid(child, &status, 0) == child && WIFEXITED(status) && WEXITSTATUS(status) == TRAPPED;
 }
 
-/* The square of 1e200 is infinite, and 0 times that is NaN. */
+/* The square of 1e200 is infinite, and so is r at a plane. Of a beam that is as oblique as it is far a conic's
+   discriminant is infinity less infinity, which is NaN: no candidate comes of it. */
 static void unmasked_exceptions_trap(void) {
     static const double FAR[BEAM] = {1e200, 0, -10, 0, 0, 1, 1};
+    static const double OBLIQUE[BEAM] = {1e200, 0, -10, 1e200, 0, 1, 1};
     const recipe *plane = many(1, PILINGRUE_KIND_CONIC, 5);
     claim(traps(_MM_MASK_OVERFLOW, plane, FAR), "an unmasked overflow traps inside the call");
-    claim(traps(_MM_MASK_INVALID, plane, FAR), "an unmasked invalid traps inside the call");
     claim(!traps(0, plane, FAR) && accepted(begin(pilingrue_whole, plane, FAR, ROOM)) &&
               live.counts[PILINGRUE_COUNTS_OUTCOME] == PILINGRUE_VIGNETTED && isinf(live.buffer[PILINGRUE_RECORD_R]),
-          "with all exceptions masked the same call answers");
+          "with all exceptions masked the same call answers, with an infinite r");
+    claim(traps(_MM_MASK_INVALID, &doublet, OBLIQUE), "an unmasked invalid traps inside the call");
+    claim(!traps(0, &doublet, OBLIQUE) && accepted(begin(pilingrue_whole, &doublet, OBLIQUE, ROOM)) &&
+              live.counts[PILINGRUE_COUNTS_OUTCOME] == PILINGRUE_MISSED,
+          "with all exceptions masked the same call answers, with a miss");
+    claim(traps(_MM_MASK_INVALID, &doublet, beam_with(0, INFINITY)),
+          "an unmasked invalid traps also where the number would be refused");
 }
 #endif
 

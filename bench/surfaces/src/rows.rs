@@ -2,7 +2,7 @@
 //!
 //! A row goes through its rays, origin and direction of each waiting for the last answer, as in a trace; then without
 //! waiting. The two sides take turns, PASSES times, and the least time of each counts. Their answers have to be the
-//! same bits. Each row has a process of its own, since what one leaves in the branch predictor shows in the next.
+//! same bits. Each row has a process of its own, since what one leaves in the processor shows in the next.
 
 use std::hint::black_box;
 use std::process::Command;

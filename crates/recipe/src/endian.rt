@@ -26,7 +26,7 @@ fn u32_at(s: &[u8], at: usize) -> u64
     low + 65536 * high
 }
 
-// By halves, of which the compiler makes one load.
+// By halves, each of which the compiler reads in one load.
 fn u64_at(s: &[u8], at: usize) -> u64
     requires { ⌜ at + 8 ≤ length (now s) ⌝ }
     ensures { λ r. ⌜ r ≡ u64At (now (s .entry)) at ⌝ }

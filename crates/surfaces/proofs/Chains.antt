@@ -45,7 +45,7 @@ module _ (q : Shape) (vertex : Float) (ray : Ray) where
   passes-bounded (suc left) made t =
       turn-bounded (passAt q vertex ray t) _ left made refl (passes-bounded left (suc made) _)
 
-  end-bounded : 0 < q .limit → Bounded (newtonEnd q vertex ray) (q .limit)
+  pub end-bounded : 0 < q .limit → Bounded (newtonEnd q vertex ray) (q .limit)
   unfolding newtonEnd
   end-bounded h =
       let b = passes-bounded (q .limit) 0 (vertexPlane vertex ray) in
@@ -80,7 +80,7 @@ module _ (q : Shape) (vertex : Float) (ray : Ray) where
       ∙ sym (step q vertex ray made t h)
 
   -- as many passes as are allowed are Newton's method
-  newton-chain : 0 < q .limit → (t : Float) →
+  pub newton-chain : 0 < q .limit → (t : Float) →
       chainBy (passes q) vertex ray (q .limit) 0 t ≡ newtonEnd q vertex ray
   newton-chain h t = from-here (q .limit) 0 t h (omega arith)
 

@@ -68,6 +68,3 @@ module _ (q : Shape) (vertex : Float) (ray : Ray) where
   pub more : (made : ℕ) (t : Float) → going (limitedPass q vertex ray made t) ≡ true → suc made < q .limit
   unfolding limitedPass
   more made t h = last (q .limit) made (nextPass q vertex ray made t) _ _ refl refl h
-
-  pub no-more : (made : ℕ) (x : Told Landing) → going x ≡ false → next made x ≡ ended x (suc made)
-  no-more made x e = rw e

@@ -344,21 +344,13 @@ pub(crate) fn newton_chain(
 pub(crate) fn newton(q: Profile, a: Polynomial, semi: f64, vertex: f64, ray: Ray) -> Crossing
     ensures { λ x. ⌜ toldCrossing x ≡ newtonEnd (shapeOf q a semi) vertex ray .answer ⌝ }
 {
-    let mut t = 0.0;
-    let mut made: u16 = 0;
-    loop {
-        match limited_pass(q, a, semi, vertex, ray, made, t) {
-            Passed::Again(u) => {
-                t = u;
-                made += 1;
-            }
-            Passed::Given(l) => {
-                break Crossing::Given(l);
-            }
-            Passed::Refused(e) => {
-                break Crossing::Refused(e);
-            }
-        }
+    let end = newton_chain(q, a, semi, vertex, ray, profile_limit(q), 0, 0.0);
+    let passed = end.passed;
+    match passed {
+        Passed::Given(l) => Crossing::Given(l),
+        Passed::Refused(e) => Crossing::Refused(e),
+        // The last pass that is allowed ends.
+        Passed::Again(_) => Crossing::Refused(Refusal::RayMissedSurface),
     }
 }
 

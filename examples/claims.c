@@ -318,6 +318,35 @@ static void odd_asphere_has_its_limit(void) {
           "an odd asphere takes at most PILINGRUE_STEPS_ODD_ASPHERE steps");
 }
 
+/* Planes into index 2 and 1, and between them a mirror, whose index 7 is not used. */
+static const recipe *folded(void) {
+    changed.size = 0;
+    append(&changed, PILINGRUE_KIND_CONIC, 5, (double[]){0, 2, 0, 0, 10});
+    append(&changed, PILINGRUE_KIND_CONIC + PILINGRUE_KIND_MIRROR, 5, (double[]){3, 7, 0, 0, 10});
+    append(&changed, PILINGRUE_KIND_CONIC, 5, (double[]){1, 1, 0, 0, 10});
+    return &changed;
+}
+
+static void path_is_the_optical_one(void) {
+    static const double POINTER[BEAM] = {0, 0, -5, 0, 0, 3, 1.3};
+    static const double LONG[BEAM] = {0, 0, -5, 0, 0, 1e155, 1}, SHORTER[BEAM] = {0, 0, -5, 0, 0, 1e154, 1};
+    const recipe *r = folded();
+    claim(accepted(begin(pilingrue_start, r, POINTER, ROOM)) && accepted(go_on(r, ROOM, 1)) &&
+              live.buffer[PILINGRUE_RECORD_T] == 5.0 / 3 && live.numbers[PILINGRUE_NUMBERS_PATH] == 6.5,
+          "the first t is counted in lengths of the direction, and the path is t times length times index");
+    claim(accepted(go_on(r, ROOM, 1)) && live.numbers[PILINGRUE_NUMBERS_PATH] == 12.5,
+          "behind the first surface the path grows by t times index, at a mirror by that before it");
+    claim(accepted(go_on(r, ROOM, 1)) && live.numbers[PILINGRUE_NUMBERS_PATH] == 16.5,
+          "behind a mirror the beam is in the same index");
+    r = many(1, PILINGRUE_KIND_CONIC, 5);
+    claim(accepted(begin(pilingrue_whole, r, LONG, ROOM)) &&
+              live.counts[PILINGRUE_COUNTS_OUTCOME] == PILINGRUE_NOT_FINITE,
+          "a direction of 1e155 has an infinite computed length, and the path is refused with 9");
+    claim(accepted(begin(pilingrue_whole, r, SHORTER, ROOM)) &&
+              live.counts[PILINGRUE_COUNTS_OUTCOME] == PILINGRUE_DONE && live.numbers[PILINGRUE_NUMBERS_PATH] == 5,
+          "one of 1e154 has not");
+}
+
 static void lens_file_begins_with_the_ray(void) {
     recipe *r = &changed;
     r->size = BEAM_BYTES + doublet.size;
@@ -422,6 +451,7 @@ static void hold_all(void) {
     coefficient_multiplies_an_even_power();
     odd_asphere_has_both_sorts_of_powers();
     odd_asphere_has_its_limit();
+    path_is_the_optical_one();
     lens_file_begins_with_the_ray();
     most_are_the_most();
     longest_recipe_is_the_longest();

@@ -17,8 +17,9 @@
 
 /* What a station has of a trace. Each member is made of numbers of 8 bytes, so there is no padding. */
 typedef struct {
-    uint64_t turn;   /* of the last copy; the larger is the newer */
-    uint64_t recipe; /* its checksum, to be written before each start: the state does not know its recipe */
+    uint64_t turn;    /* of the last copy; the larger is the newer */
+    uint64_t version; /* of the interface then: under another the same numbers may mean something else */
+    uint64_t recipe;  /* its checksum, to be written before each start: the state does not know its recipe */
     uint64_t counts[PILINGRUE_COUNTS];
     double numbers[PILINGRUE_NUMBERS];
     double buffer[PILINGRUE_MOST_ROOM];
@@ -31,7 +32,7 @@ typedef struct {
 
 enum { SLOTS = 2 };
 
-typedef enum { RESTORED, NO_WHOLE_COPY, ANOTHER_RECIPE } restored;
+typedef enum { RESTORED, NO_WHOLE_COPY, ANOTHER_VERSION, ANOTHER_RECIPE } restored;
 
 /* FNV-1a. Any single changed byte is seen: each is mixed in by an exclusive or and a product with an odd number, and
    both can be undone. A slot of zeros is not whole, since the checksum of zeros is odd. */
@@ -58,6 +59,7 @@ static int keep(slot slots[SLOTS], channel *live, uint64_t recipe) {
         return 0;
     }
     live->turn++;
+    live->version = PILINGRUE_VERSION;
     older->copy = *live;
     older->checksum = checksum(live, sizeof *live);
     return 1;
@@ -72,9 +74,15 @@ static const slot *newest(const slot slots[SLOTS]) {
     return found;
 }
 
+static restored come_from(const slot *last, uint64_t recipe) {
+    if (!last) return NO_WHOLE_COPY;
+    if (last->copy.version != PILINGRUE_VERSION) return ANOTHER_VERSION;
+    return last->copy.recipe == recipe ? RESTORED : ANOTHER_RECIPE;
+}
+
 static restored restore(slot slots[SLOTS], channel *live, uint64_t recipe) {
     const slot *last = newest(slots);
-    restored found = !last ? NO_WHOLE_COPY : last->copy.recipe != recipe ? ANOTHER_RECIPE : RESTORED;
+    restored found = come_from(last, recipe);
     if (found == RESTORED)
         *live = last->copy;
     else

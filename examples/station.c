@@ -175,6 +175,15 @@ static void cut_copy(const slot *was, size_t at) {
     spoil_copy(at);
 }
 
+/* The power fails, and the copies are those of a program with another version. */
+static void age_copies(void) {
+    for (int i = 0; i < SLOTS; i++) {
+        slots[i].copy.version--;
+        slots[i].checksum = checksum(&slots[i].copy, sizeof slots[i].copy);
+    }
+    lose_live();
+}
+
 static void come_back(restored expected) {
     restored found = restore(slots, &live, recipe_checksum());
     promise(found == expected, "what comes back with the power");
@@ -184,7 +193,7 @@ static void come_back(restored expected) {
 }
 
 static void power_cycle(const char *failed, restored expected) {
-    static const char *const BUT[] = {"", ": no copy is whole", ": the recipe is another"};
+    static const char *const BUT[] = {"", ": no copy is whole", ": the version is another", ": the recipe is another"};
     come_back(expected);
     printf("%s, and comes back%s", failed, BUT[expected]);
     show();
@@ -312,6 +321,16 @@ static void beam_is_knocked_aside(double x) {
             "no hit without a beam");
 }
 
+static void program_is_exchanged(double x) {
+    change_lens("Lens 8: the program is exchanged while the power is off, for one of another version.");
+    start(x, PILINGRUE_ACCEPTED);
+    scans(1, 1, PILINGRUE_ACCEPTED);
+    age_copies();
+    power_cycle("the power fails", ANOTHER_VERSION);
+    start(x, PILINGRUE_ACCEPTED);
+    scans(1, ALL, PILINGRUE_ACCEPTED);
+}
+
 static void work(double x) {
     beam_is_there(x);
     beam_is_lost();
@@ -320,6 +339,7 @@ static void work(double x) {
     recipe_is_exchanged(x);
     recipe_goes_bad(x);
     beam_is_knocked_aside(x);
+    program_is_exchanged(x);
 }
 
 /* A new lens is tried once as a whole. */

@@ -40,7 +40,7 @@ extern "C" {
 #endif
 
 /* The version of this header. A program that is linked with another archive sees another pilingrue_version(). */
-#define PILINGRUE_VERSION 1
+#define PILINGRUE_VERSION 2
 
 /* The table of numbers: what a call answers, how a trace ended (its outcome), and the status of a record. */
 #define PILINGRUE_BLANK 0                  /* status: the record is not finished, and nothing in it may be used */
@@ -72,7 +72,7 @@ typedef struct pilingrue_verdict {
    blanks it to its end. One of PILINGRUE_MOST_ROOM numbers suffices for every recipe. */
 #define PILINGRUE_RECORD_NUMBERS 13
 #define PILINGRUE_RECORD_STATUS 0    /* a number of the table; 0 is blank */
-#define PILINGRUE_RECORD_T 1         /* distance along the beam, in lengths of its direction */
+#define PILINGRUE_RECORD_T 1         /* how far the beam went, in lengths of its direction: 1 behind a surface */
 #define PILINGRUE_RECORD_POINT 2     /* x, y, z of the hit */
 #define PILINGRUE_RECORD_NORMAL 5    /* x, y, z of the surface's normal there */
 #define PILINGRUE_RECORD_DIRECTION 8 /* x, y, z of the new direction */
@@ -90,8 +90,9 @@ typedef struct pilingrue_verdict {
    partly of after, and a torn pair of arrays can pass 12. Write copies into two slots by turns, each with a count and
    a checksum, so that a failure in the middle of a copy leaves the other; and forget both before each start, after a
    refusal, and before the next lens is in the holder. A state does not know its recipe either, and goes on with any
-   other of the same shapes: keep a checksum of the recipe beside it, and start anew if another recipe is there.
-   examples/slots.h has all of this. */
+   other of the same shapes: keep a checksum of the recipe beside it, and start anew if another recipe is there. Nor
+   does it know its version, under which its numbers had their meaning (in version 1 the path was the sum of t): keep
+   that beside it too. examples/slots.h has all of this. */
 #define PILINGRUE_COUNTS 5
 #define PILINGRUE_COUNTS_SURFACE 0 /* number of the surface that the beam goes to, from 0; their count once done */
 #define PILINGRUE_COUNTS_PLACE 1   /* byte place of its record in the recipe; the recipe's length once done */
@@ -103,7 +104,12 @@ typedef struct pilingrue_verdict {
 #define PILINGRUE_NUMBERS_ORIGIN 1    /* x, y, z of where the beam comes from */
 #define PILINGRUE_NUMBERS_DIRECTION 4 /* x, y, z of where it goes */
 #define PILINGRUE_NUMBERS_INDEX 7     /* refractive index that it is in */
-#define PILINGRUE_NUMBERS_PATH 8      /* the sum of t over all hits */
+#define PILINGRUE_NUMBERS_PATH 8      /* the optical path up to the last hit */
+
+/* The optical path adds up, over all hits, how far the beam went in mm times the refractive index that it was in: t
+   times index, and at the first surface t times the length of the starting direction times index, rounded in this
+   order and summed from the first. At a mirror that is the index before it. A path that is not finite is refused with
+   9, as at a direction of more than about 1e154, whose computed length is infinite. */
 
 /* A recipe is one record after the other, without gaps: a u16 length (the bytes after itself), a u16 kind, then
    binary64 numbers, all little-endian. Each begins with vertex z and the refractive index behind the surface, then by
@@ -146,8 +152,9 @@ typedef struct pilingrue_verdict {
 /* The version of the archive. */
 uint64_t pilingrue_version(void);
 
-/* Starts a trace: beam from (ox, oy, oz) in direction (dx, dy, dz), in a medium of this refractive index. Give a
-   direction of length 1: the first t is counted in its lengths. No step is taken.
+/* Starts a trace: beam from (ox, oy, oz) in direction (dx, dy, dz), in a medium of this refractive index. No step is
+   taken. Give a direction of length 1 if the first t is to be read as a distance: it is counted in lengths of the
+   direction. Points and path are right either way.
 
    recipe     read only
    buffer     all `room` numbers become +0.0, whatever is answered: a longer buffer takes longer

@@ -3,7 +3,8 @@ replies."""
 import sys
 
 from asking import written_by
-from scripts import replies, told
+from floats import pattern
+from scripts import path, replies, told
 
 
 def replied(command, lines):
@@ -16,6 +17,8 @@ def is_written(reply, written):
         return reply == ["?"]
     if isinstance(written, list):
         return reply == written
+    if isinstance(written, tuple):
+        return is_written(reply, written[0]) and path(reply) == pattern(written[1])
     return reply[0] != "?" and told(reply)[: len(written.split())] == [int(x) for x in written.split()]
 
 

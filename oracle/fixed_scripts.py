@@ -1,11 +1,12 @@
 """Scripts with the replies that SCOPE gives them, and lines that cannot be read.
 
-A step is a line and what its reply has to tell: number and place, and then, if written, all steps and the outcome; or
-the whole reply as lines. None stands beside a line without a reply, "?" beside one that cannot be read."""
+A step is a line and what its reply has to tell: number and place, and then, if written, all steps and the outcome;
+these and the path; or the whole reply as lines. None stands beside a line without a reply, "?" beside one that cannot
+be read."""
 import struct
 
 from fixed import DOWN, FLAT_AND_FAST, FOUR, INFINITY, NAN, UP
-from floats import LARGEST, SMALLEST, pattern
+from floats import LARGEST, SMALLEST, of_pattern, pattern
 from operations import SEMI
 from recipes import LIMITS, RELAY, SAMPLES, bytes_of, places, recipe, record
 from scripts import WIDTH, continue_line, recipe_line, room_line, start_line, state_line, words
@@ -38,10 +39,15 @@ def bump(semi):
     return [("even", 0.0, 1.0, [0.0, 0.0, semi, 1 / 8])]
 
 
+def reply(state, *records):
+    """The whole reply to a continuation, after hits of one step each."""
+    rows = [f"record {i} {words([1.0, *record, 1.0])}" for i, record in enumerate(records)]
+    return ["continue 1 0", state_line(**state), *rows]
+
+
 def hit(state, record):
     """The whole reply to a first step that hits the only surface."""
-    row = f"record 0 {words([1.0, *record, 1.0])}"
-    return (continue_line(1), ["continue 1 0", state_line(**DONE_AFTER_ONE | state), row])
+    return (continue_line(1), reply(DONE_AFTER_ONE | state, record))
 
 
 DONE_AFTER_ONE = dict(number=1, place=44, passes=0, t=0.0, steps=1, outcome=1)
@@ -96,9 +102,9 @@ TRACES = [
     traced([plane(1e308, mirror=True), plane(-7e307)], [0.0, 0.0, 0.0, *UP], "2 9"),
     traced([plane(index=2.0**-600)], AXIS, "1 9", index=2.0**600),
     traced([plane(index=2.0**-600, mirror=True)], AXIS, "1 1", index=2.0**600),
-    # a direction of any length runs on; one of infinite length leaves none
+    # a direction of any length runs on; where the computed length is infinite, so is the path
     traced([PLANE, plane(1.0)], [0.0, 0.0, -5.0, 0.0, 0.0, 1e3], "2 1"),
-    traced([plane()], [0.0, 0.0, -5.0, 0.0, 0.0, 1e200], "1 1"),
+    traced([plane()], [0.0, 0.0, -5.0, 0.0, 0.0, 1e200], "1 9"),
     # a mirror turns the beam back to a surface that it has passed, and keeps the index
     traced([plane(index=1.5), plane(5.0, 3.0, mirror=True), plane()], [0.0, 0.0, -5.0, 0.0, 0.6, 0.8], "3 1"),
 ]
@@ -441,6 +447,35 @@ def most_bytes():
     return [*tried, (recipe_line(past), None), (continue_line(1), "10 65480 384 1")]
 
 
+# a direction of length 3, two planes, and a mirror between them whose index is not used
+POINTER = [0.0, 0.0, -5.0, 0.0, 0.0, 3.0]
+POINTED = [PLANE, plane(3.0, 7.0, mirror=True), plane(1.0)]
+ENTERED = ON_EVEN | dict(ray=[0.0, 0.0, 0.0, *UP], path=6.5, steps=1)
+LEFT = ENTERED | dict(number=3, place=3 * AFTER, ray=[0.0, 0.0, 1.0, *DOWN], index=1.0, path=16.5, steps=3, outcome=1)
+
+
+def optical_paths():
+    """By t, the length of the starting direction and the index before a surface, in this order; t stays."""
+    first, second = [5 / 3, 0.0, 0.0, 0.0, *DOWN, *UP, 1.0], [3.0, 0.0, 0.0, 3.0, *DOWN, *DOWN, 1.0]
+    third = [2.0, 0.0, 0.0, 1.0, *DOWN, *DOWN, 0.0]
+    begun = [*given(POINTED), (start_line(POINTER, 1.3), "1 0 0 0"), (continue_line(1), reply(ENTERED, first))]
+    yield [*begun, (continue_line(), reply(LEFT, first, second, third))]
+    # with the length at every surface it is 4008EBA144FE1958
+    begun = [*given([plane(index=1.5), plane(1.0)]), (start_line([0.0, 0.0, -1.0, 0.0, 1.0, 1.0]), "1 0 0 0")]
+    yield [*begun, (continue_line(), ("1 0 2 1", of_pattern("4008EBA144FE1959")))]
+    # a forged state at surface 0 has the length too, one at surface 1 has not
+    tried = [*given(POINTED), (start_line(POINTER), "1 0 0 0")]
+    for state, path in (
+        (ENTERED | dict(number=0, place=0, ray=POINTER, index=1.3, path=1.0), 7.5),
+        (ENTERED | dict(ray=[0.0, 0.0, 0.0, 0.0, 0.0, 3.0], path=1.0), 3.0),
+    ):
+        tried += [(state_line(**state), None), (continue_line(1), ("1 0 2 0", path))]
+    yield tried
+    # 9 by the path alone: a t of 0 times an infinite length, and a large index
+    yield traced([plane()], [0.0, 0.0, 0.0, 0.0, 0.0, 1e200], "1 9")
+    yield traced([plane(index=1e308)], AXIS, "1 9", index=1e308)
+
+
 STATE = state_line(0, 0, 0, 0.0, AXIS, 1.0, 0.0, 0, 0)
 UNREADABLE = [
     "",
@@ -560,4 +595,4 @@ LONG = [
 def fixed_scripts():
     """All but the long ones."""
     scripts = [EXAMPLE, SIGNS, *TRACES, *lenses(), *damaged(), *bad_rays(), *rooms(), *forged()]
-    return [*scripts, unreadable(), longest(), *ODD_TRACES, damaged_odd(), forged_odd(), most_bytes()]
+    return [*scripts, unreadable(), longest(), *ODD_TRACES, damaged_odd(), forged_odd(), most_bytes(), *optical_paths()]

@@ -44,6 +44,11 @@ def replies(answer):
     return split
 
 
+def path(reply):
+    """Its word in a reply's state."""
+    return reply[1].split()[-3]
+
+
 def told(reply):
     """Of a reply its number, place, all steps and outcome."""
     head, state = reply[0].split(), reply[1].split()

@@ -38,18 +38,32 @@ def start_refusal(traced):
 
 
 def hold_trace(listing, traced):
-    ray, surfaces, records = traced.ray, traced.surfaces, listing.records
-    beam = Beam(tuple(ray[:3]), tuple(ray[3:6]), ray[6])
-    for record in records:
-        if record.number >= len(surfaces):
-            raise BadListing(record.line, f"surface {record.number}, and the recipe has {len(surfaces)}")
-        surface = surfaces[record.number]
-        unlike = unlikeness(record, *leg(surface, beam))
+    surfaces, records = traced.surfaces, listing.records
+    for record, beam in zip(records, beams(records, traced)):
+        number = record.number
+        if number >= len(surfaces):
+            raise BadListing(record.line, f"surface {number}, and the recipe has {len(surfaces)}")
+        unlike = unlikeness(record, *leg(number, surfaces[number], beam))
         if unlike:
-            raise BadListing(record.line, f"surface {record.number}: {unlike}")
+            raise BadListing(record.line, f"surface {number}: {unlike}")
+    hold_end(listing, surfaces[len(records) :], paths(records, traced)[-1])
+
+
+def beams(records, traced):
+    """The beam before each record, and behind the last one."""
+    ray = traced.ray
+    beam = Beam(tuple(ray[:3]), tuple(ray[3:6]), ray[6])
+    yield beam
+    for record in records:
         if record.is_hit():
-            beam = beam.behind(surface, record.t, record.point, record.direction)
-    hold_end(listing, surfaces[len(records) :])
+            surface = traced.surfaces[record.number]
+            beam = beam.behind(record.number, surface, record.t, record.point, record.direction)
+        yield beam
+
+
+def paths(records, traced):
+    """The path before the first surface, and behind each."""
+    return [beam.path for beam in beams(records, traced)]
 
 
 def unlikeness(record, status, steps, slots):
@@ -59,18 +73,24 @@ def unlikeness(record, status, steps, slots):
     names = HIT_SLOTS if status == HIT else ("r", "limit")
     for name, given, due in zip(names, record.slots(), slots):
         if pattern(given) != pattern(due):
-            return f"{name} is {numeral(given)} in the listing, and {numeral(due)} by lens and ray"
+            return differs(name, given, due)
     return None if record.steps == steps else f"the listing has {record.steps} steps, and lens and ray {steps}"
+
+
+def differs(name, given, due):
+    return f"{name} is {numeral(given)} in the listing, and {numeral(due)} by lens and ray"
 
 
 def ended(status):
     return "a hit" if status == HIT else f"a refusal with {told(status)}"
 
 
-def hold_end(listing, left):
-    """What may follow the records, with these surfaces left."""
+def hold_end(listing, left, path):
+    """What may follow the records, with these surfaces left and this path behind the last hit."""
     line, made = len(listing.records) + 1, sum(record.steps for record in listing.records)
     if listing.outcome == DONE and left:
         raise BadListing(line, f"done, with {counted(len(left), 'surface')} of the recipe left")
     if listing.outcome == NOT_ENDED and (not left or listing.steps - made >= SHAPES[left[0].kind].steps):
         raise BadListing(line, "not ended, after as many steps as end the next surface or the recipe")
+    if pattern(listing.path) != pattern(path):
+        raise BadListing(line, differs("the path", listing.path, path))

@@ -163,9 +163,8 @@ def read_end(words, records):
     # steps on a surface that is not finished are in no record
     if steps < made or (steps > made and outcome != NOT_ENDED):
         raise ValueError(f"the end tells {steps} steps, and the records add up to {made}")
-    path = 0.0
-    for record in listing.hits():
-        path += record.t
-    if pattern(listing.path) != pattern(path):
-        raise ValueError(f"the path is {numeral(listing.path)}, and the records add up to {numeral(path)}")
+    if not math.isfinite(listing.path):
+        raise ValueError("the path is not finite")
+    if not listing.hits() and pattern(listing.path) != pattern(0.0):
+        raise ValueError(f"the path is {numeral(listing.path)}, and no surface was hit")
     return listing

@@ -28,20 +28,27 @@ class Beam(NamedTuple):
     def at(self, t):
         return tuple(a + t * b for a, b in zip(self.origin, self.direction))
 
-    def behind(self, surface, t, point, direction):
+    def path_to(self, number, t):
+        """Up to the surface of a number: t counts lengths of the direction, which behind a surface is a unit vector."""
+        way = t if number else t * length(self.direction)
+        return self.path + way * self.index
+
+    def behind(self, number, surface, t, point, direction):
         """The beam that leaves a surface."""
-        return Beam(point, direction, self.index if surface.mirror else surface.index, self.path + t)
+        index = self.index if surface.mirror else surface.index
+        return Beam(point, direction, index, self.path_to(number, t))
 
 
-def leg(surface, beam):
-    """What a beam leaves at a surface: status, steps, and the record's slots from 1 on, of a refusal r and limit."""
+def leg(number, surface, beam):
+    """What a beam leaves at the surface of a number: status, steps, and the record's slots from 1 on, of a refusal r
+    and limit."""
     begun = []
     try:
         t = crossing(surface, beam, begun)
         point = beam.at(t)
         facing = normal(surface, point)
         direction = onward(surface, beam, facing)
-        refuse_if(not all_finite((t, *point, *facing, *direction, beam.path + t)), 9)
+        refuse_if(not all_finite((t, *point, *facing, *direction, beam.path_to(number, t))), 9)
     except Refusal as refusal:
         return refusal.number, len(begun), refusal.slots
     return HIT, len(begun), [t, *point, *facing, *direction, float(dot(beam.direction, facing) < 0)]
@@ -58,6 +65,10 @@ def all_finite(numbers):
 
 def dot(a, b):
     return a[0] * b[0] + a[1] * b[1] + a[2] * b[2]
+
+
+def length(vector):
+    return root(dot(vector, vector))
 
 
 def distance(x, y):

@@ -211,7 +211,7 @@ class Picture:
         if listing.is_start_refused():
             where = "the ray" if beam.refused is None else f"surface {beam.refused}"
             return f"refused at the start with {told(beam.number)}, for {where}: nothing is traced"
-        so_far = f"{beam.hits} of {len(self.surfaces)} surfaces hit, path {listing.path:.6g} mm"
+        so_far = f"{beam.hits} of {len(self.surfaces)} surfaces hit, optical path {listing.path:.6g} mm"
         if beam.record is None:
             return f"{'not ended' if listing.outcome == NOT_ENDED else 'done'}: {so_far}"
         limits = ""

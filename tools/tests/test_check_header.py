@@ -21,7 +21,7 @@ NAMES = ("pilingrue_version", "pilingrue_start", "pilingrue_continue", "pilingru
 
 # A file, a text that it has once, what stands there instead, and what the refusal has to say.
 CHANGES = {
-    "another version": (HEADER, "VERSION 1", "VERSION 2", "PILINGRUE_VERSION is 2"),
+    "another version": (HEADER, "VERSION 2", "VERSION 3", "PILINGRUE_VERSION is 3"),
     "a wider record": (HEADER, "RECORD_NUMBERS 13", "RECORD_NUMBERS 15", "PILINGRUE_RECORD_NUMBERS is 15"),
     "a longer array": (HEADER, "COUNTS 5", "COUNTS 6", "uint64_t [6] counts"),
     "another slot": (HEADER, "RECORD_POINT 2", "RECORD_POINT 5", "PILINGRUE_RECORD_POINT is 5"),
@@ -48,8 +48,8 @@ CHANGES = {
         "size_t room",
     ),
     "more numbers": (STATION, "usize = NUMBERS_PATH + 1", "usize = NUMBERS_PATH + 2", "PILINGRUE_NUMBERS is 9"),
-    "a later version": (STATION, "VERSION: u64 = 1", "VERSION: u64 = 2", "PILINGRUE_VERSION is 1"),
-    "a version by itself": (STATION, "{\n    VERSION\n}", "{\n    2\n}", "VERSION is a constant of crates/station"),
+    "a later version": (STATION, "VERSION: u64 = 2", "VERSION: u64 = 3", "PILINGRUE_VERSION is 2"),
+    "a version by itself": (STATION, "{\n    VERSION\n}", "{\n    3\n}", "VERSION is a constant of crates/station"),
     "a wider allowance in the crate": (STATION, "allowed: u16", "allowed: u32", "u32 allowed"),
     "one parameter less": (STATION, "\n    allowed: u16,", "", "pilingrue_continue is"),
     "slots exchanged": (

@@ -101,7 +101,7 @@ class Draw(unittest.TestCase):
     def test_vignetted_is_marked_where_the_surface_would_be(self):
         root = drawn(RAY + PLANE, VIGNETTED)
         refused = "refused at surface 0 with 7 (vignetted), r 12 mm, semi-diameter 10 mm"
-        self.assertIn(f"{refused}; 0 of 1 surfaces hit, path 0 mm", texts(root))
+        self.assertIn(f"{refused}; 0 of 1 surfaces hit, optical path 0 mm", texts(root))
         (start, end), _ = lines(root, BEAM, DASHES)
         plane = lines(root, REFUSED)[0]
         self.assertAlmostEqual(end[0], plane[0][0], -1)

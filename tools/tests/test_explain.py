@@ -39,9 +39,9 @@ class Explain(Refusing, unittest.TestCase):
         text = ran("explain", LISTINGS / "doublet", "--recipe", SAMPLES / "doublet").out.decode()
         hit = "hit at x 6, y 3, z 0.35959609 mm, 20.3595961 mm after the start, on its front face"
         self.assertTrue(text.startswith(f"Surface 0 (conic): {hit}; 1 step.\n"))
-        row = "      1   1 hit      1  3.16462186      5.89651048       2.94825524  3.52210204  23.5242179\n"
+        row = "      1   1 hit      1  3.16462186      5.89651048       2.94825524  3.52210204  25.1596945\n"
         self.assertIn(row, text)
-        self.assertTrue(text.endswith(f"\nDone: all 4 surfaces are hit; 4 steps, path 123.822188 mm.\n\n{ALL_FIT}"))
+        self.assertTrue(text.endswith(f"\nDone: all 4 surfaces are hit; 4 steps, optical path 127.349074 mm.\n\n{ALL_FIT}"))
 
     def test_samples_without_their_recipes(self):
         for name in NAMES:
@@ -49,22 +49,34 @@ class Explain(Refusing, unittest.TestCase):
             text = told(listing)
             self.assertEqual(text.count("hit at"), listing.count("\n") - 1)
             self.assertIn("Done: all ", text)
+            self.assertIn(" lengths of the ray's direction after the start, on its front face", text)
+
+    def test_path_up_to_a_surface(self):
+        """It takes the indices, and the length of the ray's direction, so the recipe."""
+        for name, t in (("doublet", "20.3595961"), ("pointer", " 10.179798")):
+            text = ran("explain", LISTINGS / name, "--recipe", SAMPLES / name).out.decode()
+            row = f"      0   1 hit      1  {t}               6                3  0.35959609  20.3595961\n"
+            self.assertIn(row, text)
+            self.assertIn("z 0.35959609 mm, 20.3595961 mm after the start", text)
+            self.assertIn("4 steps, optical path 127.349074 mm", text)
+        self.assertIn("                3  0.35959609     -\n", told((LISTINGS / "doublet").read_text()))
 
     def test_exact_numbers(self):
-        self.assertIn("path 123.82218832868621 mm", told((LISTINGS / "doublet").read_text(), "--exact"))
+        self.assertIn("optical path 127.34907388496008 mm", told((LISTINGS / "doublet").read_text(), "--exact"))
 
     def test_cover(self):
         text = ran("explain", LISTINGS / "cover", "--recipe", SAMPLES / "cover").out.decode()
         hit = "hit at x 0.4, y -0.389379596, z 0.0649842422 mm, 1.10935859 mm after the start, on its front face"
         self.assertTrue(text.startswith(f"Surface 0 (odd): {hit}; 4 steps.\n"))
-        self.assertTrue(text.endswith(f"\nDone: all 5 surfaces are hit; 10 steps, path 3.65378645 mm.\n\n{ALL_FIT}"))
+        self.assertTrue(text.endswith(f"\nDone: all 5 surfaces are hit; 10 steps, optical path 4.04639952 mm.\n\n{ALL_FIT}"))
 
     def test_lost(self):
         text = ran("explain", LISTINGS / "lost", "--recipe", SAMPLES / "lost.txt").out.decode()
         why = "no point of the surface was found ahead of the beam"
         self.assertIn(f"Surface 2 (conic): refused with 6, missed, after 1 step: {why}.\n", text)
         self.assertIn("      2  6 missed      1           -           -           -           -           -\n", text)
-        ended = "Ended by the refusal at surface 2, with 6 (missed); 3 steps, path 23.5242179 mm up to the last hit.\n"
+        path = "optical path 25.1596945 mm up to the last hit"
+        ended = f"Ended by the refusal at surface 2, with 6 (missed); 3 steps, {path}.\n"
         behind = "The record of surface 3 is blank: nothing of it was measured.\n"
         self.assertTrue(text.endswith(f"{ended}{behind}\n{REFUSAL_FITS}"))
 
@@ -113,17 +125,17 @@ class Explain(Refusing, unittest.TestCase):
 
     def test_not_ended(self):
         text = told(f"end 0 3 {ZERO}\n")
-        self.assertEqual(text, "Not ended: 0 surfaces hit so far; 3 steps, path 0 mm.\n"
+        self.assertEqual(text, "Not ended: 0 surfaces hit so far; 3 steps, optical path 0 mm.\n"
                                "From surface 0 on the records are blank: nothing of them is measured yet.\n"
                                f"\n{NO_RECIPE}")
 
     def test_no_surfaces(self):
-        done = "Done: the recipe has no surface; 0 steps, path 0 mm.\n"
+        done = "Done: the recipe has no surface; 0 steps, optical path 0 mm.\n"
         self.assertEqual(told(f"end 1 0 {ZERO}\n"), f"{done}\n{NO_RECIPE}")
 
     def test_a_direction_of_another_length(self):
         text = told(VIGNETTED, "--recipe", self.recipe(RAY.replace("dz=1", "dz=2") + PLANE))
-        counts = "in t of surface 0, and in the path, that counts as 1 mm"
+        counts = "t of surface 0 counts in these lengths, and the path in mm"
         self.assertIn(f"The ray's direction has the length 2: {counts}.\n", text)
 
     def test_refused_starts(self):

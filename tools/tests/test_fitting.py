@@ -22,7 +22,7 @@ EVEN_LISTING = (
 BEYOND = "ray x=0 y=0 z=0x1p-30 dx=0x1p50 dy=0 dz=0x1p20 index=1\neven vertex=0 index=1 c=0 k=0 semi=0.5\n"
 BEYOND_LISTING = (
     "0 1 1 BCD0000000000000 BFF0000000000000 0000000000000000 0000000000000000 8000000000000000 0000000000000000 "
-    "BFF0000000000000 3FF0000000000000 0000000000000000 0000000000000000 3FF0000000000000\nend 1 1 BCD0000000000000\n"
+    "BFF0000000000000 3FF0000000000000 0000000000000000 0000000000000000 3FF0000000000000\nend 1 1 BFF0000000000000\n"
 )
 
 
@@ -78,7 +78,7 @@ class Samples(Refusing, unittest.TestCase):
             hold(listing_of(name), lens_of(name))
 
     def test_every_lens_that_traces_otherwise(self):
-        """315 of them, as tracing each one showed. The lost beam comes to two surfaces alone."""
+        """337 of them, as tracing each one showed. The lost beam comes to two surfaces alone."""
         refused = dict.fromkeys(ALL, 0)
         for name in ALL:
             lens, listing = lens_of(name), listing_of(name)
@@ -86,7 +86,7 @@ class Samples(Refusing, unittest.TestCase):
                 is_unmet = name == "lost" and at >= len(lens.ray) + 5 * 2
                 self.assertEqual(refusal(listing, other) is not None, matters and not is_unmet, (name, at))
                 refused[name] += refusal(listing, other) is not None
-        due = {"doublet": 22, "phone": 160, "mirrors": 31, "toroid": 31, "cover": 56, "lost": 15}
+        due = {"doublet": 22, "phone": 160, "mirrors": 31, "toroid": 31, "cover": 56, "lost": 15, "pointer": 22}
         self.assertEqual(refused, due)
 
     def test_every_number_of_a_hit(self):
@@ -130,7 +130,7 @@ def traces():
             lens = None
             continue
         is_accepted, records = reply.split()[1] == "1", []
-        steps, outcome = map(int, next(replies).split()[-2:])
+        *_, path, steps, outcome = next(replies).split()
         reply = next(replies)
         while reply.split()[0] in ("record", "tail"):
             records += [reply.split()[2:]] if reply.startswith("record") else []
@@ -139,7 +139,7 @@ def traces():
             lens = parsed(bytes_of(0, list(map(of_pattern, operands))) + recipe)
         if lens is not None and is_accepted:
             made = [record_of(i, list(map(of_pattern, numbers))) for i, numbers in enumerate(records)]
-            yield lens, Listing(made, outcome, steps)
+            yield lens, Listing(made, int(outcome), int(steps), of_pattern(path))
 
 
 def record_of(number, row):
@@ -183,10 +183,17 @@ class Held(Refusing, unittest.TestCase):
             ("semi=10", "semi=0", None),
             (" x=0", " x=11", "the listing has a hit, and lens and ray a refusal with 7 (vignetted)"),
             (" x=0", " x=1", "point x is 0 in the listing, and 1 by lens and ray"),
-            ("index=1", "index=1.5", None),
             ("conic", "mirror conic", "new direction z is 1 in the listing, and -1 by lens and ray"),
         ):
             self.assert_reason(refusal(done, prescription((RAY + PLANE).replace(old, new))), reason)
+
+    def test_path(self):
+        """It has the index before a surface, and before the first the length of the ray's direction."""
+        long, half = RAY.replace("dz=1", "dz=2"), HIT_LINE.replace(pattern(5.0), pattern(2.5))
+        for hit_line, ray, path in ((HIT_LINE, RAY.replace("index=1", "index=1.5"), 7.5), (half, long, 5.0)):
+            self.assertIsNone(refusal(f"{hit_line}\nend 1 1 {pattern(path)}", prescription(ray + PLANE)))
+            told = refusal(f"{hit_line}\nend 1 1 {pattern(2.5)}", prescription(ray + PLANE))
+            self.assert_told(told, 2, f"the path is 2.5 in the listing, and {path:g} by lens and ray")
 
     def test_a_search_that_was_changed(self):
         """A smaller semi-diameter ends it at the hit, or in a pass before."""
@@ -201,7 +208,7 @@ class Held(Refusing, unittest.TestCase):
             ("c=0 k=0 semi=5 a1=0.125", "c=1 k=0 semi=5", "the listing has a hit, and lens and ray a refusal with 6"),
         ):
             self.assert_reason(refusal(EVEN_LISTING, prescription(EVEN.replace(old, new))), reason)
-        far, listing = EVEN.replace("dz=1 ", "dz=16 "), EVEN_LISTING.replace(pattern(3.0), pattern(3 / 16))
+        far, listing = EVEN.replace("dz=1 ", "dz=16 "), EVEN_LISTING.replace(pattern(3.0), pattern(3 / 16), 1)
         self.assert_reason(refusal(listing, prescription(far)), None)
         self.assert_reason(refusal(listing, prescription(far.replace("semi=5", "semi=3.9"))), "the listing has a hit")
 

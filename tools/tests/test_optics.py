@@ -163,13 +163,13 @@ class OddAspheres(unittest.TestCase):
 
     def test_r_is_asked_for_at_the_second_exit(self):
         beam = Beam((0.0, 0.0, 2.0**-30), (2.0**50, 0.0, 2.0**20), 1.0)
-        self.assertEqual(leg(odd(0.5), beam), (7, 1, [1.0, 0.5]))
-        self.assertEqual(leg(odd(1.0), beam)[:2], (1, 1))
+        self.assertEqual(leg(0, odd(0.5), beam), (7, 1, [1.0, 0.5]))
+        self.assertEqual(leg(0, odd(1.0), beam)[:2], (1, 1))
 
     def test_its_limit(self):
         """A search that goes to and fro between r 0 and r 1."""
         beam = Beam((0.0, 0.0, 2.0), (1.0, 0.0, 1.0), 1.0)
-        self.assertEqual(leg(odd(5.0, 3.0, -1.0), beam)[:2], (6, 25))
+        self.assertEqual(leg(0, odd(5.0, 3.0, -1.0), beam)[:2], (6, 25))
 
     def test_all_coefficients_take_part(self):
         """0 times a power beyond the largest number is no number."""

@@ -10,7 +10,7 @@ TOOLS = Path(__file__).resolve().parent.parent
 SAMPLES = TOOLS.parent / "samples"
 LISTINGS = TOOLS / "tests" / "listings"
 CRATES = TOOLS.parent / "crates"
-NAMES = ("doublet", "phone", "mirrors", "toroid", "cover")
+NAMES = ("doublet", "phone", "mirrors", "toroid", "cover", "pointer")
 
 # what is said of a toroid with rx 0
 NO_RADIUS = ("rx is 0, a circle without a radius, which a beam hardly meets: "

@@ -12,7 +12,7 @@ use Rattle.trace.specs.Run.{Reply, continueOf}
 use Rattle.station.specs.declared.Verdict.{Verdict}
 
 abbrev pub version : ℕ
-version = 1
+version = 2
 
 -- a count beyond its type is the type's largest
 unfoldable pub passesIn : ℕ → ℕ

@@ -17,7 +17,7 @@ use trace::start;
 use trace::whole;
 
 // The version of this interface.
-pub const VERSION: u64 = 1;
+pub const VERSION: u64 = 2;
 
 // The slots of the counts, and how many there are.
 pub const COUNTS_SURFACE: usize = 0;

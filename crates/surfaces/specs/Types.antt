@@ -37,6 +37,9 @@ dotOf a b = a .x *₆₄ b .x +₆₄ a .y *₆₄ b .y +₆₄ a .z *₆₄ b .
 abbrev pub squaredLength : Vec3 → Float
 squaredLength a = dotOf a a
 
+unfoldable pub vectorLength : Vec3 → Float
+vectorLength a = root (squaredLength a)
+
 unfoldable pub overOf : Vec3 → Float → Vec3
 overOf a s = vec (a .x /₆₄ s) (a .y /₆₄ s) (a .z /₆₄ s)
 

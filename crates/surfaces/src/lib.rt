@@ -69,6 +69,7 @@ pub use types::Polynomial;
 pub use types::Ray;
 pub use types::Vec3;
 pub use types::all_finite;
+pub use types::length;
 pub use types::no_coefficients;
 pub use types::no_polynomial;
 pub use types::no_ray;

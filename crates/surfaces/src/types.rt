@@ -1,9 +1,10 @@
 // Vectors, rays and what a surface is made of, by value. Lengths are in millimetres.
 ghost use mathlib.Core.Path.{_≡_};
 ghost use lib.ListN.{take};
-ghost use Rattle.surfaces.specs.Types.{backwards, rayOf, noRay, dotOf, overOf, pointAt, allFinite, rayFinite};
-ghost use Rattle.surfaces.specs.Types.{noCoefficients, noPolynomial, everyFinite, coefficientsGood};
+ghost use Rattle.surfaces.specs.Types.{backwards, rayOf, noRay, dotOf, vectorLength, overOf, pointAt, allFinite};
+ghost use Rattle.surfaces.specs.Types.{rayFinite, noCoefficients, noPolynomial, everyFinite, coefficientsGood};
 use numbers::is_finite;
+use numbers::sqrt;
 
 pub struct Vec3 {
     pub x: f64,
@@ -88,6 +89,12 @@ pub(crate) fn dot(a: Vec3, b: Vec3) -> f64
     ensures { λ r. ⌜ r ≡ dotOf a b ⌝ }
 {
     a.x * b.x + a.y * b.y + a.z * b.z
+}
+
+pub fn length(a: Vec3) -> f64
+    ensures { λ r. ⌜ r ≡ vectorLength a ⌝ }
+{
+    sqrt(dot(a, a))
 }
 
 pub(crate) fn over(a: Vec3, s: f64) -> Vec3

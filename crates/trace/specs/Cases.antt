@@ -10,7 +10,8 @@ use lib.Ieee.{Float, nan, inf, binary64, ofBits, toBits, ofInt, neg, round, add,
 use Rattle.numbers.specs.Arithmetic.{decimal, 0f, 1f, 2f, 4f}
 use Rattle.numbers.specs.Basic.{magnitude, negative, larger, clamped, infinite}
 use Rattle.numbers.specs.Root.{root}
-use Rattle.surfaces.specs.Types.{vec, zeros, dotOf, overOf, distance, pointAt, allFinite, rayFinite, everyFinite}
+use Rattle.surfaces.specs.Types.{vec, zeros, dotOf, vectorLength, overOf, distance, pointAt, allFinite, rayFinite}
+use Rattle.surfaces.specs.Types.{everyFinite}
 use Rattle.surfaces.specs.Snell.{turnedIf, negatedIf, mirrored, reflected, bent, refracted}
 use Rattle.surfaces.specs.Conic.{landedWithin, planeCrossing, conicCrossing, normalAt}
 use Rattle.surfaces.specs.Newton.{arrivedAt, movedBy, passAt, vertexPlane, passesFrom, newtonEnd, passStart, nextPass}
@@ -21,6 +22,7 @@ use Rattle.surfaces.specs.Asphere.{oddBaseSlope, oddSlope, oddOnAxis, oddSlopes
 use Rattle.surfaces.specs.Surface.{passAnswer, surfaceEnd, limitOf, surfaceNormal, onwardFrom, turnAnswer}
 use Rattle.surfaces.specs.Edges.{_over_, whole, bits, coordinates, Case, _⇒_, agree, ray}
 use Rattle.surfaces.specs.declared.types.Vec3.{Vec3}
+use Rattle.surfaces.specs.declared.types.Ray.{Ray}
 use Rattle.recipe.specs.Endian.{u16At, u32At, u64At, numberAt, numbersAt}
 use Rattle.recipe.specs.Record.{slotAt, lengthFits, formedAt, shapedAt, semiSlot, kindOf, oddCount, evenCount}
 use Rattle.recipe.specs.Record.{coefficientsAt, opticAt, negativeSemi, recordAt}
@@ -50,6 +52,17 @@ on recipe call =
     let b = recipe in
     let r = call b in
     shown (r .answer .number) (r .answer .place) (r .answer .state) (r .buffer)
+
+-- a buffer that holds the last lens's numbers
+abbrev pub stale : ℕ → List Float
+stale n = replicate n 1f
+
+-- how the whole trace of a ray in an index ends, and the bit pattern of its path
+unfoldable pub ending : List ℕ → Ray → Float → List ℕ
+ending recipe ray index =
+    let b = recipe in
+    let s = wholeOf b ray index (stale 39) .answer .state in
+    s .outcome ∷ bits (s .beam .path ∷ [])
 
 -- the numbers that continuations of these states are answered with, where there is room for two records
 unfoldable pub answered : List ℕ → List State → List ℕ
@@ -86,10 +99,6 @@ blanks n = replicate n 0f
 abbrev pub refusal : Float → Float → Float → Float → List Float
 refusal status r limit steps = status ∷ r ∷ limit ∷ blanks 9 ++ steps ∷ []
 
--- a buffer that holds the last lens's numbers
-abbrev pub stale : ℕ → List Float
-stale n = replicate n 1f
-
 -- a surface's record, by its kind and its numbers
 abbrev pub surface : ℕ → List Float → List ℕ
 surface kind l = bytes 2 (2 + 8 * length l) ++ bytes 2 kind ++ patterns (bits l)
@@ -122,7 +131,7 @@ abbrev pub inside : Beam
 inside = beam (vec 4f 0f 0f) z 2f 1f
 
 abbrev pub behind : Beam
-behind = beam (vec 4f 0f (whole 6)) z 1f (whole 7)
+behind = beam (vec 4f 0f (whole 6)) z 1f (whole 13)
 
 -- a beam along z far from the axis
 abbrev pub far : Beam
@@ -155,6 +164,23 @@ unfit = state 0 44 7 nan inside 5 3
 -- a plane at 0 into index 2, a mirror at 4 whose record says 3, a plane at 2 into index 1
 unfoldable pub folded : List ℕ
 folded = plane 0f 2f (whole 10) ++ mirror 4f (whole 3) (whole 10) ++ plane 2f 1f (whole 10)
+
+-- the same with the mirror at 3, index 7, and the last plane at 1; a beam of direction (0, 0, 3) before it; the first
+-- two records
+unfoldable pub pointed : List ℕ
+pointed = plane 0f 2f (whole 10) ++ mirror (whole 3) (whole 7) (whole 10) ++ plane 1f 1f (whole 10)
+
+abbrev pub 3z : Vec3
+3z = vec 0f 0f (whole 3)
+
+abbrev pub pointer : Float → Beam
+pointer path = beam (vec 0f 0f (neg (whole 5))) 3z (13 over 10) path
+
+abbrev pub pointedFirst : List Float
+pointedFirst = hit (5 over 3) zeros -z z 1f 1f
+
+abbrev pub pointedSecond : Float → List Float
+pointedSecond t = hit t 3z -z -z 1f 1f
 
 -- three planes, of which the second is too small for a ray at x 2
 unfoldable pub narrow : List ℕ
@@ -194,14 +220,14 @@ cases =
     (on [] (λ b. startOf b (before .ray) 1f (stale 1)) ⇒ shown 1 0 (state 0 0 0 0f before 0 1) (blanks 1)) ∷
     -- a mirror between media: its index 3 is not used, and the beam stays in index 2
     (on folded (λ b. wholeOf b (ray (vec 0f 0f (neg 1f)) z) 1f (stale 39)) ⇒
-    shown 1 0 (state 3 132 0 0f (beam (vec 0f 0f 2f) -z 1f (whole 7)) 3 1)
+    shown 1 0 (state 3 132 0 0f (beam (vec 0f 0f 2f) -z 1f (whole 13)) 3 1)
     (hit 1f zeros -z z 1f 1f ++ hit 4f (vec 0f 0f 4f) -z -z 1f 1f ++ hit 2f (vec 0f 0f 2f) -z -z 0f 1f)) ∷
     (on folded (λ b. continueOf b (state 1 44 0 0f (beam zeros z 2f 1f) 1 0) (blanks 39) 1) ⇒
-    shown 1 0 (state 2 88 0 0f (beam (vec 0f 0f 4f) -z 2f (whole 5)) 2 0)
+    shown 1 0 (state 2 88 0 0f (beam (vec 0f 0f 4f) -z 2f (whole 9)) 2 0)
     (blanks 13 ++ hit 4f (vec 0f 0f 4f) -z -z 1f 1f ++ blanks 13)) ∷
     -- so from index 2 it is totally reflected at the bowl behind a mirror of index 1, out of which it would pass
     (on (mirror 4f 1f (whole 10) ++ bowl (whole 5)) (λ b. wholeOf b (before .ray) 2f (stale 26)) ⇒
-    shown 1 0 (state 1 44 0 0f (beam (vec 4f 0f 4f) -z 2f (whole 5)) 3 8)
+    shown 1 0 (state 1 44 0 0f (beam (vec 4f 0f 4f) -z 2f (whole 10)) 3 8)
     (hit (whole 5) (vec 4f 0f 4f) -z -z 1f 1f ++ refusal (whole 8) 0f 0f 2f)) ∷
     -- a refusal in the middle, 7 with r and limit: blanks behind its record, the beam of the hit before it
     (on narrow (λ b. wholeOf b (ray (vec 2f 0f (neg 1f)) z) 1f (stale 40)) ⇒
@@ -213,6 +239,26 @@ cases =
     (on (plane (whole (10 ^ 308)) 1f (whole 10))
     (λ b. wholeOf b (ray (vec 0f 0f (neg (whole (10 ^ 308)))) z) 1f (stale 13)) ⇒
     shown 1 0 (state 0 0 0 0f (beam (vec 0f 0f (neg (whole (10 ^ 308)))) z 1f 0f) 1 9) (refusal (whole 9) 0f 0f 1f)) ∷
+    -- the optical path: 5/3 · 3 · 1.3, then 3 · 2 and 2 · 2, in the index that the beam is in; t stays in lengths of
+    -- the direction
+    (on pointed (λ b. wholeOf b (pointer 0f .ray) (13 over 10) (stale 39)) ⇒
+    shown 1 0 (state 3 132 0 0f (beam (vec 0f 0f 1f) -z 1f (33 over 2)) 3 1)
+    (pointedFirst ++ pointedSecond (whole 3) ++ hit 2f (vec 0f 0f 1f) -z -z 0f 1f)) ∷
+    -- t · length comes first: in the order t, index, length the first share is another number
+    (on pointed (λ b. continueOf b (state 0 0 0 0f (pointer 0f) 0 0) (blanks 39) 1) ⇒
+    shown 1 0 (state 1 44 0 0f (beam zeros z 2f (13 over 2)) 1 0) (pointedFirst ++ blanks 26)) ∷
+    -- a made-up state at surface 0 has the length too, one at surface 1 has not
+    (on pointed (λ b. continueOf b (state 0 0 0 0f (pointer 1f) 2 0) (blanks 39) 1) ⇒
+    shown 1 0 (state 1 44 0 0f (beam zeros z 2f (15 over 2)) 3 0) (pointedFirst ++ blanks 26)) ∷
+    (on pointed (λ b. continueOf b (state 1 44 0 0f (beam zeros 3z 2f 1f) 1 0) (blanks 39) 1) ⇒
+    shown 1 0 (state 2 88 0 0f (beam 3z -z 2f (whole 3)) 2 0) (blanks 13 ++ pointedSecond 1f ++ blanks 13)) ∷
+    -- behind a surface the direction's computed length, here not quite 1, takes no part
+    (ending (plane 0f (3 over 2) (whole 10) ++ plane 1f 1f (whole 10)) (ray (vec 0f 0f (neg 1f)) (vec 0f 1f 1f)) 1f ⇒
+    1 ∷ 0x4008_eba1_44fe_1959 ∷ []) ∷
+    -- 9: the path is not finite, by the direction's length, with which a t of 0 is no number, or by a large index
+    (ending (plane 0f 1f (whole 10)) (ray (vec 0f 0f (neg 1f)) (vec 0f 0f (whole (10 ^ 200)))) 1f ⇒ 9 ∷ 0 ∷ []) ∷
+    (ending (plane 0f 1f (whole 10)) (ray zeros (vec 0f 0f (whole (10 ^ 200)))) 1f ⇒ 9 ∷ 0 ∷ []) ∷
+    (ending (plane 0f (whole (10 ^ 308)) (whole 10)) (ray (vec 0f 0f (neg 4f)) z) (whole (10 ^ 308)) ⇒ 9 ∷ 0 ∷ []) ∷
     -- SCOPE E5: a hit after 2 steps, 7 after 2, 6 after 1
     (on (bowl (whole 5)) (λ b. wholeOf b (before .ray) 1f (stale 13)) ⇒
     shown 1 0 (state 1 52 0 0f (beam (vec 4f 0f 2f) z 1f (whole 3)) 2 1)
@@ -277,8 +323,8 @@ cases =
     1 ∷ 12 ∷ 12 ∷ 12 ∷ 12 ∷ []) ∷ []
 
 pub each-case : agree cases ≡ true
-unfolding cases lens folded narrow on answered bits _over_ bytes patterns beamRecord planeRecord decimal magnitude
-    negative larger clamped infinite root neg round add sub mul div lt le eq isNan ofBits toBits ofInt dotOf overOf
+unfolding cases lens folded pointed narrow on ending answered bits _over_ bytes patterns beamRecord planeRecord decimal magnitude
+    negative larger clamped infinite root neg round add sub mul div lt le eq isNan ofBits toBits ofInt dotOf vectorLength overOf
     distance pointAt allFinite rayFinite everyFinite turnedIf negatedIf mirrored reflected bent refracted landedWithin
     planeCrossing conicCrossing normalAt arrivedAt movedBy passAt vertexPlane passesFrom newtonEnd passStart nextPass
     limitedPass powerSumFrom slopeSumFrom baseSag baseSlope evenSag evenSlope radialSlopes evenSlopes lengthOf facingOf

@@ -3,11 +3,12 @@
 use Prim.Native.Nat.{ℕ}
 use mathlib.Core.List.{List, [], _∷_}
 use mathlib.Core.Bool.{Bool, false, _&&_}
+use lib.Dec.{eqb}
 use lib.IntN.{pos}
 use lib.Ieee.{Float, binary64, ofInt}
 use lib.Ieee.Scale.{finite}
-use Rattle.numbers.specs.Arithmetic.{_+₆₄_, if_then_else_, 0f, 1f}
-use Rattle.surfaces.specs.Types.{zeros, allFinite}
+use Rattle.numbers.specs.Arithmetic.{_+₆₄_, _*₆₄_, if_then_else_, 0f, 1f}
+use Rattle.surfaces.specs.Types.{zeros, vectorLength, allFinite}
 use Rattle.surfaces.specs.Refusal.{Told, gives, done, after, checked9}
 use Rattle.surfaces.specs.Surface.{turnAnswer}
 use Rattle.surfaces.specs.declared.types.Landing.{Landing}
@@ -26,9 +27,12 @@ noLeg = record { t = 0f; point = zeros; normal = zeros; direction = zeros; front
 unfoldable pub boundaryOf : Optic → Float → Boundary
 boundaryOf o index = if o .mirror then Mirror else Media index (o .index)
 
--- a surface's share of the path (SCOPE C11), by its number, the beam before it and t
+-- a surface's share of the path (SCOPE C11), by its number, the beam before it and t, which counts lengths of the
+-- direction: behind a surface that is a unit vector
 unfoldable pub share : ℕ → Beam → Float → Float
-share number b t = t
+share number b t =
+    if eqb number 0 then t *₆₄ vectorLength (b .ray .direction) *₆₄ b .index else
+    t *₆₄ b .index
 
 -- what 9 covers
 unfoldable pub legFinite : Leg → Bool

@@ -16,6 +16,7 @@ use surfaces::Refusal;
 use surfaces::Turned;
 use surfaces::Vec3;
 use surfaces::all_finite;
+use surfaces::length;
 use surfaces::line_of;
 use surfaces::turn;
 
@@ -81,11 +82,18 @@ fn boundary(o: Optic, index: f64) -> Boundary
     }
 }
 
-// A surface's share of the path (SCOPE C11), by its number and the beam before it.
+// A surface's share of the path (SCOPE C11), by its number and the beam before it: t counts lengths of the direction,
+// which behind a surface is a unit vector.
 fn share(number: usize, b: Beam, t: f64) -> f64
     ensures { λ r. ⌜ r ≡ share number b t ⌝ }
 {
-    t
+    if number == 0 {
+        let ray = b.ray;
+        let d = ray.direction;
+        t * length(d) * b.index
+    } else {
+        t * b.index
+    }
 }
 
 fn leg_finite(g: Leg) -> bool

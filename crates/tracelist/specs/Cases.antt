@@ -9,7 +9,7 @@ use lib.ListN.{length}
 use Rattle.numbers.specs.Arithmetic.{decimal}
 use Rattle.numbers.specs.Basic.{magnitude, negative, larger, clamped, infinite}
 use Rattle.numbers.specs.Root.{root}
-use Rattle.surfaces.specs.Types.{dotOf, overOf, distance, pointAt, allFinite, rayFinite, everyFinite}
+use Rattle.surfaces.specs.Types.{dotOf, vectorLength, overOf, distance, pointAt, allFinite, rayFinite, everyFinite}
 use Rattle.surfaces.specs.Snell.{turnedIf, negatedIf, bent, refracted}
 use Rattle.surfaces.specs.Conic.{landedWithin, planeCrossing, conicCrossing, conicNormal, gradientNormal, normalAt}
 use Rattle.surfaces.specs.Newton.{arrivedAt, movedBy, passAt, vertexPlane, passesFrom, newtonEnd}
@@ -41,6 +41,10 @@ recordOf kind numbers = bytes 2 (2 + 8 * length numbers) ++ bytes 2 kind ++ patt
 unfoldable pub offAxis : List ℕ
 offAxis =
     recordOf 0 (0x4010000000000000 ∷ 0 ∷ 0xc000000000000000 ∷ 0 ∷ 0 ∷ 0x3ff0000000000000 ∷ 0x3ff0000000000000 ∷ [])
+
+-- origin (0, 0, -5), direction (0, 0, 2), index 1.5
+unfoldable pub pointer : List ℕ
+pointer = recordOf 0 (0 ∷ 0 ∷ 0xc014000000000000 ∷ 0 ∷ 0 ∷ 0x4000000000000000 ∷ 0x3ff8000000000000 ∷ [])
 
 -- a plane at -1, index 1, semi-diameter 10
 unfoldable pub pane : List ℕ
@@ -82,6 +86,12 @@ cases =
     "0000000000000000 0000000000000000 BFF0000000000000 " &
     "0000000000000000 0000000000000000 3FF0000000000000 3FF0000000000000" ∷
     "end 1 1 4014000000000000" ∷ []) ∷
+    -- t is told in lengths of the direction, 2.5, and the path is the optical one, 7.5
+    (pointer ++ planeRecord prints
+    "0 1 1 4004000000000000 0000000000000000 0000000000000000 0000000000000000 " &
+    "0000000000000000 0000000000000000 BFF0000000000000 " &
+    "0000000000000000 0000000000000000 3FF0000000000000 3FF0000000000000" ∷
+    "end 1 1 401E000000000000" ∷ []) ∷
     -- an even asphere is hit after 2 steps, a second one vignettes (7) after 2 with r 4 and its semi-diameter 3, and
     -- the plane behind it has no line
     (offAxis ++ pane ++ bowl 0 0x4014000000000000 ++ bowl 0x4008000000000000 0x4008000000000000 ++ planeRecord prints
@@ -103,8 +113,8 @@ cases =
     (noIndex ++ planeRecord prints "refused 4 0" ∷ []) ∷ []
 
 pub each-case : agree cases ≡ true
-unfolding cases recordOf offAxis pane bowl inverted noIndex _&_ lined ofBits toBits ofInt toUnsigned neg round add sub
-    mul div lt le eq isNan decimal magnitude negative larger clamped infinite root dotOf overOf distance pointAt
+unfolding cases recordOf offAxis pointer pane bowl inverted noIndex _&_ lined ofBits toBits ofInt toUnsigned neg round add sub
+    mul div lt le eq isNan decimal magnitude negative larger clamped infinite root dotOf vectorLength overOf distance pointAt
     allFinite rayFinite everyFinite turnedIf negatedIf bent refracted landedWithin planeCrossing conicCrossing
     conicNormal gradientNormal normalAt arrivedAt movedBy passAt vertexPlane passesFrom newtonEnd powerSumFrom
     slopeSumFrom edgeRoot baseSag baseSlope evenSag evenSlope radialSlopes evenSlopes lengthOf facingOf evenFacing

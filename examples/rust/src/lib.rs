@@ -5,7 +5,7 @@ mod raw;
 
 pub use raw::Verdict;
 
-pub const VERSION: u64 = 1;
+pub const VERSION: u64 = 2;
 
 pub const BLANK: u64 = 0;
 pub const RUNNING: u64 = 0;

@@ -2,10 +2,10 @@
 //! by turns, so that one is whole while the other is written. The live state is not what is kept: a power failure
 //! inside a call leaves it torn, and a torn state can pass a continuation's check.
 
-use pilingrue::{COUNTS, MOST_ROOM, NUMBERS, State, Trace};
+use pilingrue::{COUNTS, MOST_ROOM, NUMBERS, State, Trace, VERSION};
 
 pub const SLOTS: usize = 2;
-pub const CHANNEL_BYTES: usize = 8 * (2 + COUNTS + NUMBERS + MOST_ROOM);
+pub const CHANNEL_BYTES: usize = 8 * (3 + COUNTS + NUMBERS + MOST_ROOM);
 pub const SLOT_BYTES: usize = CHANNEL_BYTES + 8;
 
 /// What a station has of a trace.
@@ -13,6 +13,8 @@ pub const SLOT_BYTES: usize = CHANNEL_BYTES + 8;
 pub struct Channel {
     /// Of the last copy; the larger is the newer.
     pub turn: u64,
+    /// Of the interface then: under another the same numbers may mean something else.
+    pub version: u64,
     /// Its checksum, to be written before each start: the state does not know its recipe.
     pub recipe: u64,
     pub state: State,
@@ -28,6 +30,7 @@ pub struct Slots {
 pub enum Restored {
     Last,
     NoWholeCopy,
+    AnotherVersion,
     AnotherRecipe,
 }
 
@@ -52,15 +55,15 @@ impl Channel {
     pub fn of(bytes: &[u8]) -> Channel {
         let mut words = bytes.as_chunks().0.iter().map(|word| u64::from_le_bytes(*word));
         let mut next = || words.next().unwrap_or(0);
-        let (turn, recipe) = (next(), next());
+        let (turn, version, recipe) = (next(), next(), next());
         let counts = std::array::from_fn(|_| next());
         let numbers = std::array::from_fn(|_| f64::from_bits(next()));
         let buffer = words.map(f64::from_bits).collect();
-        Channel { turn, recipe, state: State { counts, numbers }, buffer }
+        Channel { turn, version, recipe, state: State { counts, numbers }, buffer }
     }
 
     pub fn bytes(&self) -> Vec<u8> {
-        let counts = [self.turn, self.recipe].into_iter().chain(self.state.counts);
+        let counts = [self.turn, self.version, self.recipe].into_iter().chain(self.state.counts);
         let numbers = self.state.numbers.iter().chain(&self.buffer).map(|x| x.to_bits());
         counts.chain(numbers).flat_map(u64::to_le_bytes).collect()
     }
@@ -89,6 +92,7 @@ impl Slots {
             return false;
         }
         live.turn += 1;
+        live.version = VERSION;
         let copy = live.bytes();
         let (older, sum) = self.of_turn(live.turn).split_at_mut(CHANNEL_BYTES);
         older.copy_from_slice(&copy);
@@ -111,11 +115,12 @@ impl Slots {
     /// When the power is back: the newest copy that is whole, or a stop.
     pub fn restore(&mut self, live: &mut Channel, recipe: u64) -> Restored {
         let found = match self.memory.iter().filter_map(|slot| whole(slot)).max_by_key(|copy| copy.turn) {
-            Some(newest) if newest.recipe == recipe => {
+            Some(newest) if newest.version != VERSION => Restored::AnotherVersion,
+            Some(newest) if newest.recipe != recipe => Restored::AnotherRecipe,
+            Some(newest) => {
                 *live = newest;
                 return Restored::Last;
             }
-            Some(_) => Restored::AnotherRecipe,
             None => Restored::NoWholeCopy,
         };
         self.stop(live);

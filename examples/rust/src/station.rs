@@ -220,6 +220,17 @@ impl Station {
         self.spoil_copy(at);
     }
 
+    /// The power fails, and the copies are those of a program with another version.
+    fn age_copies(&mut self) {
+        for slot in &mut self.slots.memory {
+            let (copy, sum) = slot.split_at_mut(CHANNEL_BYTES);
+            let aged = Channel { version: VERSION - 1, ..Channel::of(copy) };
+            copy.copy_from_slice(&aged.bytes());
+            sum.copy_from_slice(&checksum(copy).to_le_bytes());
+        }
+        self.lose_live();
+    }
+
     fn come_back(&mut self, expected: Restored) {
         let found = self.slots.restore(&mut self.live, checksum(&self.recipe));
         self.promise(found == expected, "what comes back with the power");
@@ -233,6 +244,7 @@ impl Station {
         let but = match expected {
             Restored::Last => "",
             Restored::NoWholeCopy => ": no copy is whole",
+            Restored::AnotherVersion => ": the version is another",
             Restored::AnotherRecipe => ": the recipe is another",
         };
         self.come_back(expected);
@@ -368,6 +380,16 @@ impl Station {
         self.promise(hit == (self.unbroken.state.counts[COUNTS_OUTCOME] == DONE), "no hit without a beam");
     }
 
+    fn program_is_exchanged(&mut self, x: f64) {
+        self.change_lens("Lens 8: the program is exchanged while the power is off, for one of another version.");
+        self.start(x, ACCEPTED);
+        self.scans(1, 1, ACCEPTED);
+        self.age_copies();
+        self.power_cycle("the power fails", Restored::AnotherVersion);
+        self.start(x, ACCEPTED);
+        self.scans(1, ALL, ACCEPTED);
+    }
+
     fn work(&mut self, x: f64) {
         self.beam_is_there(x);
         self.beam_is_lost();
@@ -376,6 +398,7 @@ impl Station {
         self.recipe_is_exchanged(x);
         self.recipe_goes_bad(x);
         self.beam_is_knocked_aside(x);
+        self.program_is_exchanged(x);
     }
 
     /// A new lens is tried once as a whole.

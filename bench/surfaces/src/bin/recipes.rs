@@ -106,7 +106,8 @@ fn by_rust(optics: &[Optic], mut ray: Ray, buf: &mut [f64]) -> Result<f64, Optic
         } else {
             snell_refract(ray.direction, n, index, optic.index)?
         };
-        path += t;
+        let way = if number == 0 { t * ray.direction.dot(&ray.direction).sqrt() } else { t };
+        path += way * index;
         let front = if front { 1.0 } else { 0.0 };
         row.copy_from_slice(&[HIT as f64, t, p.x, p.y, p.z, n.x, n.y, n.z, d.x, d.y, d.z, front, 1.0]);
         ray.origin = p;

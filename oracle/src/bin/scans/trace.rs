@@ -148,7 +148,13 @@ fn turned(surface: &Surface, state: &State, t: f64, point: Vec3) -> Result<Hit, 
     } else {
         snell_refract(state.ray.direction, normal, state.index, surface.index_after)?
     };
-    Ok(Hit { t, point, normal, direction, path: state.path + t })
+    Ok(Hit { t, point, normal, direction, path: state.path + share(state, t) })
+}
+
+/// Of the path: t counts lengths of the direction, which behind a surface is a unit vector.
+fn share(state: &State, t: f64) -> f64 {
+    let d = state.ray.direction;
+    if state.number == 0 { t * d.dot(&d).sqrt() * state.index } else { t * state.index }
 }
 
 fn finite(hit: Hit) -> Result<Hit, Refusal> {

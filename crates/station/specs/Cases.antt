@@ -9,7 +9,8 @@ use lib.Ieee.{Float, ofBits, toBits, ofInt, neg, round, add, sub, mul, div, lt, 
 use Rattle.numbers.specs.Arithmetic.{decimal, 0f, 1f, 2f}
 use Rattle.numbers.specs.Basic.{magnitude, negative, larger, clamped, infinite}
 use Rattle.numbers.specs.Root.{root}
-use Rattle.surfaces.specs.Types.{rayOf, dotOf, vectorLength, overOf, distance, pointAt, allFinite, rayFinite, everyFinite}
+use Rattle.surfaces.specs.Types.{rayOf, dotOf, vectorLength, overOf, distance, pointAt, allFinite, rayFinite}
+use Rattle.surfaces.specs.Types.{everyFinite}
 use Rattle.surfaces.specs.Snell.{turnedIf, negatedIf, bent, refracted}
 use Rattle.surfaces.specs.Conic.{landedWithin, planeCrossing, conicCrossing, conicNormal, gradientNormal, normalAt}
 use Rattle.surfaces.specs.Surface.{passAnswer, limitOf, surfaceNormal, onwardFrom, turnAnswer}
@@ -95,10 +96,10 @@ cases =
 pub each-case : agree cases ≡ true
 unfolding cases bits _over_ rayOf passesIn outcomeIn stateIn countsOf numbersOf continued bytes patterns planeRecord
     decimal magnitude negative larger clamped infinite root neg round add sub mul div lt le eq isNan ofBits toBits ofInt
-    dotOf vectorLength overOf distance pointAt allFinite rayFinite everyFinite turnedIf negatedIf bent refracted landedWithin
-    planeCrossing conicCrossing conicNormal gradientNormal normalAt passAnswer limitOf surfaceNormal onwardFrom
-    turnAnswer u16At u32At u64At numberAt numbersAt slotAt lengthFits formedAt shapedAt semiSlot kindOf oddCount
-    evenCount coefficientsAt opticAt recordAt scan notes boundaryOf share legFinite legOf beamAfter hitRow rowOf
-    stateAfter surfaceLeft stepOn move advance outcomeKnown placeFits passesFit beamGood fitsOf refusedAnswer admission
-    startAt startOf continueOf
+    dotOf vectorLength overOf distance pointAt allFinite rayFinite everyFinite turnedIf negatedIf bent refracted
+    landedWithin planeCrossing conicCrossing conicNormal gradientNormal normalAt passAnswer limitOf surfaceNormal
+    onwardFrom turnAnswer u16At u32At u64At numberAt numbersAt slotAt lengthFits formedAt shapedAt semiSlot kindOf
+    oddCount evenCount coefficientsAt opticAt recordAt scan notes boundaryOf share legFinite legOf beamAfter hitRow
+    rowOf stateAfter surfaceLeft stepOn move advance outcomeKnown placeFits passesFit beamGood fitsOf refusedAnswer
+    admission startAt startOf continueOf
 each-case = refl

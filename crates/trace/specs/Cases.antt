@@ -323,15 +323,15 @@ cases =
     1 ∷ 12 ∷ 12 ∷ 12 ∷ 12 ∷ []) ∷ []
 
 pub each-case : agree cases ≡ true
-unfolding cases lens folded pointed narrow on ending answered bits _over_ bytes patterns beamRecord planeRecord decimal magnitude
-    negative larger clamped infinite root neg round add sub mul div lt le eq isNan ofBits toBits ofInt dotOf vectorLength overOf
-    distance pointAt allFinite rayFinite everyFinite turnedIf negatedIf mirrored reflected bent refracted landedWithin
-    planeCrossing conicCrossing normalAt arrivedAt movedBy passAt vertexPlane passesFrom newtonEnd passStart nextPass
-    limitedPass powerSumFrom slopeSumFrom baseSag baseSlope evenSag evenSlope radialSlopes evenSlopes lengthOf facingOf
-    normalOf evenFacing evenNormal oddSag oddBaseSlope oddSlope oddOnAxis oddSlopesAt oddNormal oddSlopes passAnswer
-    surfaceEnd limitOf surfaceNormal onwardFrom turnAnswer u16At u32At u64At numberAt numbersAt slotAt lengthFits
-    formedAt shapedAt semiSlot kindOf oddCount evenCount coefficientsAt opticAt negativeSemi recordAt scan placeOf notes
-    isSource vectorAt sourceOf boundaryOf share legFinite legOf beamAfter hitRow refusalRow rowOf unbroken total rows
-    padded pausedAt stateAfter surfaceLeft stepOn move advance outcomeKnown placeFits passesFit beamGood fitsOf
-    refusedAnswer admission startAt startOf startFileOf continueOf wholeOf
+unfolding cases lens folded pointed narrow on ending answered bits _over_ bytes patterns beamRecord planeRecord decimal
+    magnitude negative larger clamped infinite root neg round add sub mul div lt le eq isNan ofBits toBits ofInt dotOf
+    vectorLength overOf distance pointAt allFinite rayFinite everyFinite turnedIf negatedIf mirrored reflected bent
+    refracted landedWithin planeCrossing conicCrossing normalAt arrivedAt movedBy passAt vertexPlane passesFrom
+    newtonEnd passStart nextPass limitedPass powerSumFrom slopeSumFrom baseSag baseSlope evenSag evenSlope radialSlopes
+    evenSlopes lengthOf facingOf normalOf evenFacing evenNormal oddSag oddBaseSlope oddSlope oddOnAxis oddSlopesAt
+    oddNormal oddSlopes passAnswer surfaceEnd limitOf surfaceNormal onwardFrom turnAnswer u16At u32At u64At numberAt
+    numbersAt slotAt lengthFits formedAt shapedAt semiSlot kindOf oddCount evenCount coefficientsAt opticAt negativeSemi
+    recordAt scan placeOf notes isSource vectorAt sourceOf boundaryOf share legFinite legOf beamAfter hitRow refusalRow
+    rowOf unbroken total rows padded pausedAt stateAfter surfaceLeft stepOn move advance outcomeKnown placeFits
+    passesFit beamGood fitsOf refusedAnswer admission startAt startOf startFileOf continueOf wholeOf
 each-case = refl

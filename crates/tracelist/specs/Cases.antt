@@ -113,14 +113,14 @@ cases =
     (noIndex ++ planeRecord prints "refused 4 0" ∷ []) ∷ []
 
 pub each-case : agree cases ≡ true
-unfolding cases recordOf offAxis pointer pane bowl inverted noIndex _&_ lined ofBits toBits ofInt toUnsigned neg round add sub
-    mul div lt le eq isNan decimal magnitude negative larger clamped infinite root dotOf vectorLength overOf distance pointAt
-    allFinite rayFinite everyFinite turnedIf negatedIf bent refracted landedWithin planeCrossing conicCrossing
-    conicNormal gradientNormal normalAt arrivedAt movedBy passAt vertexPlane passesFrom newtonEnd powerSumFrom
-    slopeSumFrom edgeRoot baseSag baseSlope evenSag evenSlope radialSlopes evenSlopes lengthOf facingOf evenFacing
-    evenNormal surfaceEnd surfaceNormal onwardFrom turnAnswer u16At u32At u64At numberAt numbersAt slotAt lengthFits
-    formedAt shapedAt semiSlot kindOf oddCount evenCount coefficientsAt opticAt negativeSemi recordAt scan isSource
-    vectorAt sourceOf glyph hexText decimalText boundaryOf share legFinite legOf beamAfter hitRow refusalRow rowOf
-    unbroken total refusedAnswer admission startAt startFileOf traceOf bytes patterns beamRecord planeRecord ascii line
-    recordLine recordLines endLine refusedLine traceLines listing
+unfolding cases recordOf offAxis pointer pane bowl inverted noIndex _&_ lined ofBits toBits ofInt toUnsigned neg round
+    add sub mul div lt le eq isNan decimal magnitude negative larger clamped infinite root dotOf vectorLength overOf
+    distance pointAt allFinite rayFinite everyFinite turnedIf negatedIf bent refracted landedWithin planeCrossing
+    conicCrossing conicNormal gradientNormal normalAt arrivedAt movedBy passAt vertexPlane passesFrom newtonEnd
+    powerSumFrom slopeSumFrom edgeRoot baseSag baseSlope evenSag evenSlope radialSlopes evenSlopes lengthOf facingOf
+    evenFacing evenNormal surfaceEnd surfaceNormal onwardFrom turnAnswer u16At u32At u64At numberAt numbersAt slotAt
+    lengthFits formedAt shapedAt semiSlot kindOf oddCount evenCount coefficientsAt opticAt negativeSemi recordAt scan
+    isSource vectorAt sourceOf glyph hexText decimalText boundaryOf share legFinite legOf beamAfter hitRow refusalRow
+    rowOf unbroken total refusedAnswer admission startAt startFileOf traceOf bytes patterns beamRecord planeRecord ascii
+    line recordLine recordLines endLine refusedLine traceLines listing
 each-case = refl

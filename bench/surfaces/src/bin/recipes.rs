@@ -3,9 +3,9 @@
 //!
 //! The folder that LENSES names has a lens a file, as `bench/lenses` writes them. Its surfaces are made beforehand for
 //! the loop, which meets each, takes its normal where the intersection does not hand it out, refracts or reflects, and
-//! writes the record; ours reads the recipe's bytes. Both sides hand back the sum of the last beam's numbers, and their
-//! records have to be the same bits, but for the number of steps, which the Rust text does not tell. A word on the
-//! command line is the name of the one row wanted.
+//! writes the record and adds its share to the path; ours reads the recipe's bytes. Both sides hand back the sum of the
+//! last beam's numbers, the path among them. These sums and all records have to be the same bits, but for the number of
+//! steps, which the Rust text does not tell. A word on the command line is the name of the one row wanted.
 
 #[path = "../rows.rs"]
 mod rows;
@@ -138,8 +138,8 @@ fn whole(name: &str, recipe: &[u8], z: f64, wide: f64, steep: f64) {
     let rays = through(&optics, z, wide, steep);
     let [mut a, mut b] = [(); 2].map(|()| vec![0.0; RECORD_NUMBERS * optics.len()]);
     for r in &rays {
-        ours(recipe, *r, &mut a);
-        by_rust(&optics, ray(r), &mut b).unwrap();
+        let (x, y) = (ours(recipe, *r, &mut a), by_rust(&optics, ray(r), &mut b).unwrap());
+        assert!(x.to_bits() == y.to_bits(), "{name}: another path or beam behind the last surface at {r:?}");
         for (i, (x, y)) in a.iter().zip(&b).enumerate() {
             let (record, slot) = (i / RECORD_NUMBERS, i % RECORD_NUMBERS);
             let same = slot == RECORD_STEPS || x.to_bits() == y.to_bits();

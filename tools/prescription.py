@@ -22,7 +22,8 @@ the text:
   r^16, none skipped. An odd asphere has these 8 and b1 of r, b2 of r^3 and so on to b8 of r^15; each of the 16 that is
   left out is 0. In place of c, cx or cy there may be radius, radiusx or radiusy: the curvature is 1/radius, rounded
   once, and inf is a plane's. A cylinder is a biconic with radiusx=inf, or radiusy=inf. `mirror` stands before a
-  mirror's kind. The ray, if there is one, comes first: origin, direction and the index that it starts in.
+  mirror's kind. The ray, if there is one, comes first: origin, direction and the index that it starts in. Its direction
+  may have any length; t of the first surface counts in such lengths, and the path in mm.
 
   A number is a decimal (6, -0, 1.5e-3), a hexadecimal float with its exponent (0x1.8p-3), inf, -inf, or nan: and the 16
   hex digits of a NaN's pattern. A decimal stands for the nearest binary64 number."""

@@ -13,7 +13,7 @@ ASKED = {"sag": 75, "derivatives": 40, "normal": 50, "turn": 30, "intersect": 25
 TERMS = len(SHAPES["odd"].coefficients)
 
 # what SCOPE's own checks refuse, which a start makes before a trace; a plane's normal, which no trace asks for; a ray
-# far out that a power of r overflows, where a record's 0 counts and a question without that coefficient has none
+# so far out that a power of r overflows, where a record's 0 counts and a question without that coefficient has none
 LEFT_OUT = {
     "conic_normal": lambda numbers: abs(numbers[4]) < 1e-15,
     "conic_intersect": lambda numbers: numbers[9] < 0,

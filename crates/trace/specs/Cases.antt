@@ -247,7 +247,7 @@ cases =
     -- t · length comes first: in the order t, index, length the first share is another number
     (on pointed (λ b. continueOf b (state 0 0 0 0f (pointer 0f) 0 0) (blanks 39) 1) ⇒
     shown 1 0 (state 1 44 0 0f (beam zeros z 2f (13 over 2)) 1 0) (pointedFirst ++ blanks 26)) ∷
-    -- a made-up state at surface 0 has the length too, one at surface 1 has not
+    -- a forged state at surface 0 has the length too, one at surface 1 has not
     (on pointed (λ b. continueOf b (state 0 0 0 0f (pointer 1f) 2 0) (blanks 39) 1) ⇒
     shown 1 0 (state 1 44 0 0f (beam zeros z 2f (15 over 2)) 3 0) (pointedFirst ++ blanks 26)) ∷
     (on pointed (λ b. continueOf b (state 1 44 0 0f (beam zeros 3z 2f 1f) 1 0) (blanks 39) 1) ⇒

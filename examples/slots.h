@@ -74,7 +74,7 @@ static const slot *newest(const slot slots[SLOTS]) {
     return found;
 }
 
-static restored come_from(const slot *last, uint64_t recipe) {
+static restored judge(const slot *last, uint64_t recipe) {
     if (!last) return NO_WHOLE_COPY;
     if (last->copy.version != PILINGRUE_VERSION) return ANOTHER_VERSION;
     return last->copy.recipe == recipe ? RESTORED : ANOTHER_RECIPE;
@@ -82,7 +82,7 @@ static restored come_from(const slot *last, uint64_t recipe) {
 
 static restored restore(slot slots[SLOTS], channel *live, uint64_t recipe) {
     const slot *last = newest(slots);
-    restored found = come_from(last, recipe);
+    restored found = judge(last, recipe);
     if (found == RESTORED)
         *live = last->copy;
     else

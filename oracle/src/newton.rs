@@ -48,13 +48,7 @@ impl<'a> Newton<'a> {
         semi: f64, stops_a_last_move: bool, sag: impl Fn(f64) -> Result<f64, OpticsError> + 'a,
         slopes: impl Fn(Vec3, f64) -> Result<(f64, f64), OpticsError> + 'a,
     ) -> Self {
-        Newton {
-            semi,
-            limit: 25,
-            stops_a_last_move,
-            sag: Box::new(move |_, r| sag(r)),
-            slopes: Box::new(slopes),
-        }
+        Newton { semi, limit: 25, stops_a_last_move, sag: Box::new(move |_, r| sag(r)), slopes: Box::new(slopes) }
     }
 
     pub fn of_biconic(s: &'a BiconicSurface) -> Self {

@@ -91,8 +91,8 @@ typedef struct pilingrue_verdict {
    a checksum, so that a failure in the middle of a copy leaves the other; and forget both before each start, after a
    refusal, and before the next lens is in the holder. A state does not know its recipe either, and goes on with any
    other of the same shapes: keep a checksum of the recipe beside it, and start anew if another recipe is there. Nor
-   does it know its version, under which its numbers had their meaning (in version 1 the path was the sum of t): keep
-   that beside it too. examples/slots.h has all of this. */
+   does it know its version, and under another its numbers may mean something else: keep that beside it too.
+   examples/slots.h has all of this. */
 #define PILINGRUE_COUNTS 5
 #define PILINGRUE_COUNTS_SURFACE 0 /* number of the surface that the beam goes to, from 0; their count once done */
 #define PILINGRUE_COUNTS_PLACE 1   /* byte place of its record in the recipe; the recipe's length once done */

@@ -31,7 +31,7 @@ WHY = {
     5: "the surface has no normal where the beam meets it",
     6: "no point of the surface was found ahead of the beam",
     8: "the beam meets the surface too flatly to leave the denser medium",
-    9: "a number of this surface's answer is infinite or undefined",
+    9: "a number of this surface's answer, or the path up to it, is infinite or undefined",
 }
 
 

@@ -136,9 +136,13 @@ class Explain(Refusing, unittest.TestCase):
         self.assertEqual(told(f"end 1 0 {ZERO}\n"), f"{done}\n{NO_RECIPE}")
 
     def test_a_direction_of_another_length(self):
-        text = told(VIGNETTED, "--recipe", self.recipe(RAY.replace("dz=1", "dz=2") + PLANE))
+        """It is told where there is a first t."""
         counts = "t of surface 0 counts in these lengths, and the path in mm"
+        text = ran("explain", LISTINGS / "pointer", "--recipe", SAMPLES / "pointer").out.decode()
         self.assertIn(f"The ray's direction has the length 2: {counts}.\n", text)
+        refused = told(VIGNETTED, "--recipe", self.recipe(RAY.replace("dz=1", "dz=2") + PLANE))
+        self.assertIn(REFUSAL_FITS, refused)
+        self.assertNotIn("The ray's direction", refused)
 
     def test_refused_starts(self):
         nothing = "Nothing was traced: every record is blank.\n"

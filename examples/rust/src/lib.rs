@@ -64,7 +64,8 @@ pub const STEPS_BICONIC: u16 = 35;
 pub const STEPS_TOROID: u16 = 35;
 pub const STEPS_ODD_ASPHERE: u16 = 25;
 
-/// A beam: where it comes from, where it goes, and the refractive index that it is in.
+/// A beam: where it comes from, where it goes, and the refractive index that it is in. A direction of length 1 makes
+/// the first t a distance; the path is right for any.
 #[derive(Clone, Copy, Debug)]
 pub struct Beam {
     pub origin: [f64; 3],
@@ -72,7 +73,8 @@ pub struct Beam {
     pub index: f64,
 }
 
-/// A trace's state. It does not know its recipe. For a power cycle copy it with the buffer, after a call has returned.
+/// A trace's state. It knows neither its recipe nor its version. For a power cycle copy it with the buffer, after a call
+/// has returned.
 #[derive(Clone, Copy, Debug, Default)]
 pub struct State {
     pub counts: [u64; COUNTS],

@@ -73,8 +73,8 @@ pub struct Beam {
     pub index: f64,
 }
 
-/// A trace's state. It knows neither its recipe nor its version. For a power cycle copy it with the buffer, after a call
-/// has returned.
+/// A trace's state. It knows neither its recipe nor its version. For a power cycle copy it with the buffer, after a
+/// call has returned.
 #[derive(Clone, Copy, Debug, Default)]
 pub struct State {
     pub counts: [u64; COUNTS],

@@ -146,12 +146,28 @@ static void put(struct trace *t, unsigned kind, const double *numbers, int n) {
     t->bytes += 4 + 8 * (size_t)n;
 }
 
-static void set(struct trace *t, const struct input *x) {
-    t->bytes = 0;
+static void put_surface(struct trace *t, const struct input *x) {
     put(t, number_of(x->slot), x->surface, full_length(kind_of(x->slot)));
+}
+
+/* A step of the first surface. */
+static void set_first(struct trace *t, const struct input *x) {
+    t->bytes = 0;
+    put_surface(t, x);
     for (int i = 0; i < PILINGRUE_COUNTS; i++) t->counts[i] = 0;
     t->counts[PILINGRUE_COUNTS_PASSES] = x->passes;
     for (int i = 0; i < PILINGRUE_NUMBERS; i++) t->numbers[i] = x->state[i];
+}
+
+/* The same behind a plane, where the path does not ask for the direction's length. */
+static void set(struct trace *t, const struct input *x) {
+    static const double PLANE[] = {0, 1, 0, 0, 1};
+    set_first(t, x);
+    t->bytes = 0;
+    put(t, PILINGRUE_KIND_CONIC, PLANE, sizeof PLANE / sizeof *PLANE);
+    t->counts[PILINGRUE_COUNTS_SURFACE] = 1;
+    t->counts[PILINGRUE_COUNTS_PLACE] = t->bytes;
+    put_surface(t, x);
 }
 
 /* Random numbers. */
@@ -252,7 +268,8 @@ static struct input drawn(int slot) {
 static void fit(struct input *x) {
     static struct trace t;
     int semi = semi_place(kind_of(x->slot));
-    const double *r = t.buffer, *o = t.numbers + PILINGRUE_NUMBERS_ORIGIN, *d = t.numbers + PILINGRUE_NUMBERS_DIRECTION;
+    const double *r = t.buffer + PILINGRUE_RECORD_NUMBERS;
+    const double *o = t.numbers + PILINGRUE_NUMBERS_ORIGIN, *d = t.numbers + PILINGRUE_NUMBERS_DIRECTION;
     double s, px, py;
     set(&t, x);
     if (count_copied(&t, below(2) ? 1 : 64) == 0) return;
@@ -308,7 +325,7 @@ static void expect(int holds, const char *what) {
 
 /* A recipe of n records of a kind, and a beam before the first. */
 static void repeat(struct trace *t, const struct input *x, int length, int n) {
-    set(t, x);
+    set_first(t, x);
     for (t->bytes = 0; n > 0; n--) put(t, number_of(x->slot), x->surface, length);
 }
 
@@ -364,7 +381,7 @@ static uint64_t checks(const struct trace *t) {
 static void mix(struct trace *t, int n) {
     struct input x = drawn(0);
     int on = below(n);
-    set(t, &x);
+    set_first(t, &x);
     t->bytes = 0;
     for (int i = 0; i < n; i++) {
         struct input y = drawn(below(SLOTS));
@@ -392,21 +409,30 @@ static void count_fixed_parts(void) {
 
 /* Steps. */
 
-static uint64_t step_counted_by(uint64_t count(struct trace *, uint16_t), const struct input *x) {
-    static struct trace t;
-    uint64_t all;
-    set(&t, x);
-    all = count(&t, 1);
-    return all ? all - cost.scan - checks(&t) : 0;
+static uint64_t step_counted_by(uint64_t count(struct trace *, uint16_t), struct trace *t) {
+    uint64_t all = count(t, 1);
+    return all ? all - cost.scan - checks(t) : 0;
 }
 
-static uint64_t step_counted(const struct input *x) { return step_counted_by(count_continue, x); }
+static uint64_t step_counted(const struct input *x) {
+    static struct trace t;
+    set(&t, x);
+    return step_counted_by(count_continue, &t);
+}
+
+static uint64_t first_step_counted(const struct input *x) {
+    static struct trace t;
+    set_first(&t, x);
+    return step_counted_by(count_continue, &t);
+}
 
 static uint64_t tries;
 
 static uint64_t step_copied(const struct input *x) {
+    static struct trace t;
+    set(&t, x);
     tries++;
-    return step_counted_by(count_copied, x);
+    return step_counted_by(count_copied, &t);
 }
 
 /* The climbers of a kind. Each takes a change that does not make its step cheaper. */
@@ -547,6 +573,16 @@ static void count_next(void) {
     next_cost = count_continue(&t, 2) + cost.scan + checks(&t) - one - other;
 }
 
+/* What the dearest steps cost more where they are the first surface's. */
+static uint64_t first_cost(void) {
+    uint64_t most = 0;
+    for (int slot = 0; slot < SLOTS; slot++) {
+        uint64_t first = first_step_counted(&dearest[slot].at), step = dearest[slot].step;
+        if (first > step + most) most = first - step;
+    }
+    return most;
+}
+
 /* Lenses. */
 
 /* A trace of a lens, started. What is no lens is refused by the start. */
@@ -565,16 +601,17 @@ static int start_lens(const char *path, struct trace *t) {
 /* Each step of a lens is no dearer than the dearest of its kind, and all together cost no more than one by one. */
 static int hold_sample(const char *path) {
     static struct trace t, together;
-    uint64_t sum = 0, rest;
+    uint64_t sum = 0, rest, first = first_cost();
     uint16_t steps = 0;
     if (!start_lens(path, &t) || !start_lens(path, &together)) return 0;
     rest = cost.scan + checks(&t);
     while (t.counts[PILINGRUE_COUNTS_OUTCOME] == PILINGRUE_RUNNING) {
-        uint64_t step;
+        uint64_t step, most;
         int slot;
         kind_at(t.recipe + t.counts[PILINGRUE_COUNTS_PLACE], &slot);
+        most = dearest[slot].step + (t.counts[PILINGRUE_COUNTS_SURFACE] ? 0 : first);
         step = count_continue(&t, 1) - rest;
-        expect(step <= dearest[slot].step, "a sample's step is no dearer than the dearest of its kind");
+        expect(step <= most, "a sample's step is no dearer than the dearest of its kind");
         sum += step;
         steps++;
     }
@@ -640,7 +677,7 @@ static double slowest;
 
 static void time_step(const struct input *x) {
     static struct trace t;
-    set(&t, x);
+    set_first(&t, x);
     slowest = fmax(slowest, time_of(&t, 1));
 }
 
@@ -661,6 +698,7 @@ static void print_table(void) {
     puts("\n  the dearest step found                 refracting     mirror");
     for (int k = 0; k < KIND_COUNT; k++)
         printf("  %-38s %10d %10d\n", KINDS[k].name, (int)dearest[2 * k].step, (int)dearest[2 * k + 1].step);
+    printf("  %-38s %10d\n", "more for one of the first surface", (int)first_cost());
 }
 
 static int print_rate(const char *path) {
@@ -669,7 +707,7 @@ static int print_rate(const char *path) {
     printf("\non this processor %.0f instructions a microsecond, the least of the dearest steps and the checks:\n",
            rate);
     printf("steps of a scan = (microseconds * %.0f - %d - its records' checks) / (dearest step of its kinds + %d)\n",
-           rate, (int)cost.scan, (int)next_cost);
+           rate, (int)(cost.scan + first_cost()), (int)next_cost);
     printf("where numbers are subnormal, a scan of one step was seen to take %.2f microseconds\n", slowest);
     return failed;
 }
@@ -692,9 +730,10 @@ static int print_allowance(const char *path, const char *file, double time) {
     double rate, step, rest;
     if (!start_lens(file, &t) || t.bytes == 0 || !(time > 0)) return fprintf(stderr, "steps: no lens, or no time\n"), 2;
     if (!read_dearest(path, time_step)) return 2;
-    rate = least_rate(), step = (double)(dearest_in(&t) + next_cost), rest = (double)(cost.scan + checks(&t));
+    rate = least_rate(), step = (double)(dearest_in(&t) + next_cost);
+    rest = (double)(cost.scan + first_cost() + checks(&t));
     printf("%9.0f  instructions in %g microseconds, at %.0f a microsecond\n", time * rate, time, rate);
-    printf("%9d  off for a scan\n", (int)cost.scan);
+    printf("%9d  off for a scan, and for a step of the first surface\n", (int)(cost.scan + first_cost()));
     printf("%9d  off for the checks of %d records\n", (int)checks(&t), (int)records(&t));
     printf("%9.0f  for each step, the dearest found of the recipe's kinds\n", step);
     printf("%9d  steps may a scan have\n", whole_steps((time * rate - rest) / step));

@@ -2,8 +2,9 @@
 mod surfaced;
 
 ghost use mathlib.Core.Path.{_≡_};
-ghost use lib.Ieee.{isNan};
+ghost use lib.Ieee.{binary64, isNan, ofBits};
 ghost use lib.Ieee.Scale.{finite};
+ghost use Rattle.numbers.specs.Arithmetic.{_<₆₄_};
 ghost use Rattle.numbers.specs.Basic.{magnitude, larger, clamped, infinite};
 ghost use Rattle.numbers.specs.Root.{root};
 
@@ -12,6 +13,20 @@ pub extern "C" fn measured_sqrt(x: f64) -> f64
     ensures { λ r. ⌜ r ≡ root x ⌝ }
 {
     numbers::sqrt(x)
+}
+
+#[no_mangle]
+pub extern "C" fn measured_root_exceeds(x: f64, y: f64) -> bool
+    ensures { λ r. ⌜ r ≡ (y <₆₄ root x) ⌝ }
+{
+    numbers::root_exceeds(x, y)
+}
+
+#[no_mangle]
+pub extern "C" fn measured_from_bits(bits: u64) -> f64
+    ensures { λ r. ⌜ r ≡ ofBits binary64 bits ⌝ }
+{
+    numbers::from_bits(bits)
 }
 
 #[no_mangle]

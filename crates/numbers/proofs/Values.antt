@@ -28,7 +28,7 @@ units-of nan s a v = absurd v
 units-of (inf t) s a v = absurd v
 units-of (fin t m e) s a v = ap (λ (y : ℕ). y / down e) (v .1) ∙ mul-div-cancel a (down-pos e)
 
-low-units : (b : ℕ) → b < 2 ^ 52 → patternUnits b ≡ b * 1
+pub low-units : (b : ℕ) → b < 2 ^ 52 → patternUnits b ≡ b * 1
 low-units b h = let z : b / 2 ^ 52 - 1 ≡ 0 = omega arith in rw z (omega arith)
 
 -- The units of a number whose pattern lies below infinity's.

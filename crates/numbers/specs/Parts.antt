@@ -1,5 +1,6 @@
 -- What the parts of the square root's code say to each other; no promise of the crate cites it. Definitions only.
-use Prim.Native.Nat.{ℕ, _+_, _-_, _*_, _/_, _^_, _≤_, _<_}
+use mathlib.Core.Path.{_≡_}
+use Prim.Native.Nat.{ℕ, _+_, _-_, _*_, _/_, _%_, _^_, _≤_, _<_}
 
 -- q is the whole number nearest to √n: (q - 1/2)² < n < (q + 1/2)²
 abbrev pub Near : ℕ → ℕ → Type 0
@@ -8,3 +9,18 @@ Near n q = (q * q < n + q) × (n ≤ q * q + q)
 -- the units of the number above zero whose pattern is b: a field of 0 counts as a field of 1, and has no leading digit
 abbrev pub patternUnits : ℕ → ℕ
 patternUnits b = (b - (b / 2 ^ 52 - 1) * 2 ^ 52) * 2 ^ (b / 2 ^ 52 - 1)
+
+-- over, which may have wrapped below 0, is what q * (q + 1) is above m * 2 ^ 42
+abbrev pub Above : ℕ → ℕ → ℕ → Type 0
+Above m q over =
+    (over < 2 ^ 63 → q * (q + 1) ≡ m * 2 ^ 42 + over) × (2 ^ 63 ≤ over → q * (q + 1) + 2 ^ 64 ≡ m * 2 ^ 42 + over)
+
+-- a normal number whose pattern is b is this many times 2 ^ 52 and an even power of two
+abbrev pub radicand : ℕ → ℕ
+radicand b = (b - (b / 2 ^ 52 - 1) * 2 ^ 52) * ((b / 2 ^ 52 - 1) % 2 + 1)
+
+-- the number whose pattern is b has the digits of the normal one whose pattern is f, and its root the exponent k
+abbrev pub Formed : ℕ → ℕ → ℕ → Type 0
+Formed b f k =
+    (2 ^ 52 ≤ f) × (f < 0x7ff0_0000_0000_0000) × (k < 2046)
+    × (patternUnits b * 2 ^ 1074 ≡ radicand f * 2 ^ 52 * 2 ^ (2 * k))

@@ -1,28 +1,46 @@
 -- `numbers::root::sqrt` meets its contract: by the sign of x, and above zero by its pattern. Assumes nothing.
 use mathlib.Core.Path.{_≡_, refl, sym, ap, _∙_}
-use Prim.Native.Nat.{_≤_, _<_}
+use Prim.Native.Nat.{zero, suc, _*_, _≤_, _<_, compare·suc-zero}
+use native.Mathlib.Nat.{mul-pos, zero-lt-suc, zero-mul}
 use native.Mathlib.Omega.{arith}
+use mathlib.Core.Bool.{Bool·beq, true, false, _||_, true≢false, false≢true, and-eq-true-iff}
+use borrow.Author.Tests.{eqb-true, ltb-false}
 use denote.Floats.{passes}
-use lib.Dec.{T}
-use lib.Ieee.{Float, binary64, fits, div, ofBits, toBits}
+use lib.Dec.{T, eqb}
+use lib.Ieee.{Float, nan, inf, fin, binary64, fits, lt, eq, mul, div, ofBits, toBits, up, down}
+use lib.Ieee.Fits.{up-pos}
 use Rattle.numbers.specs.Root.{root, rootUnits}
 use Rattle.numbers.specs.Parts.{patternUnits}
-use Rattle.numbers.proofs.Signs.{Negative, minus-infinity, minus, Positive, infinity, plus, Neither, no-number}
-use Rattle.numbers.proofs.Signs.{nought, negative, positive, neither, no-nan}
+use Rattle.numbers.proofs.Signs.{Positive, infinity, plus, positive, no-nan}
 use Rattle.numbers.proofs.Values.{units-pattern, bits-lt, bits-pos}
 use Rattle.numbers.proofs.root.sqrt.Statement.{statement}
 use Rattle.numbers.proofs.root.sqrt.Tie as tie
 use borrow.Author.Needs.{needs}
 
-of-negative : {x : Float} → Negative x → div binary64 (ofBits binary64 0) (ofBits binary64 0) ≡ root x
-unfolding div ofBits root
-of-negative minus-infinity = refl
-of-negative (minus m e) = refl
+of-zero : (x : Float) → eq x (ofBits binary64 0) ≡ true → x ≡ root x
+unfolding eq ofBits root
+of-zero nan h = refl
+of-zero (inf s) h = absurd (false≢true h)
+of-zero (fin s zero e) h = refl
+of-zero (fin s (suc m) e) h =
+    let a = suc m * up e * 1 in
+    let t = and-eq-true-iff (eqb a (0 * 1 * down e)) (Bool·beq s false || eqb a 0) .0 h .0 in
+    let p = mul-pos (zero-lt-suc m) (up-pos e) in
+    absurd (omega (arith, eqb-true a (0 * 1 * down e) t))
 
-of-neither : {x : Float} → Neither x → x ≡ root x
-unfolding root
-of-neither no-number = refl
-of-neither (nought s e) = refl
+-- a number below zero has no root, nor has NaN
+of-other : (x : Float) → lt (ofBits binary64 0) x ≡ false → eq x (ofBits binary64 0) ≡ false →
+    mul binary64 (div binary64 x (ofBits binary64 0)) (ofBits binary64 0) ≡ root x
+unfolding lt eq mul div ofBits root
+of-other nan h k = refl
+of-other (inf true) h k = refl
+of-other (inf false) h k = absurd (true≢false h)
+of-other (fin true zero e) h k = absurd (true≢false (rw (zero-mul (up e), zero-mul (down e)) at k))
+of-other (fin false zero e) h k = absurd (true≢false (rw (zero-mul (up e), zero-mul (down e)) at k))
+of-other (fin true (suc m) e) h k = rw (compare·suc-zero m)
+of-other (fin false (suc m) e) h k =
+    let p = mul-pos (zero-lt-suc m) (up-pos e) in
+    absurd (omega (arith, ltb-false (0 * 1 * down e) (suc m * up e * 1) h))
 
 of-infinite : {x : Float} → Positive x → T (fits binary64 x) → 0x7ff0_0000_0000_0000 ≤ toBits binary64 x → x ≡ root x
 unfolding root
@@ -42,9 +60,9 @@ unfolding toBits
 range infinity h = omega arith
 range (plus m e) h = (bits-pos m e h, omega (arith, bits-lt m e h))
 
--- where x is seen to be above zero, from where its exponent's field is compared
-abbrev seen-positive : tie.After-wrapping-sub-u642 → tie.Then1
-seen-positive c = c .before .before .before
+-- where x is seen to be above zero, from where it is seen to be finite
+abbrev above-zero : tie.Then3 → tie.Then1
+above-zero c = c .before .before .before
 
 -- what owning an `f64` tells: the format holds it
 held : (c : tie.Start) → T (fits binary64 (c .args .x))
@@ -74,31 +92,28 @@ near-one-requires c κs = search needs
 returns : tie.Need-returns
 returns c = c .near-one .ensures ∙ finite (c .before .before .before) (omega arith)
 
-wrapping-sub-u64-requires-2 : tie.Need-wrapping-sub-u64-requires-2
-wrapping-sub-u64-requires-2 c κs = search needs
+form-of-requires : tie.Need-form-of-requires
+form-of-requires c κs = omega (arith, within (above-zero c))
 
-middle-root-requires : tie.Need-middle-root-requires
-middle-root-requires c κs = search needs
+root-of-requires : tie.Need-root-of-requires
+root-of-requires c κs = let f = c .form-of .ensures in (f .0, f .1, f .2)
 
 returns-2 : tie.Need-returns-2
-returns-2 c = c .middle-root .ensures ∙ finite (seen-positive (c .before .before)) (omega arith)
-
-far-root-requires : tie.Need-far-root-requires
-far-root-requires c κs = omega (arith, within (seen-positive (c .before .before)))
+returns-2 c =
+    let b = toBits binary64 (above-zero (c .before .before) .before .args .x) in
+    c .root-of .ensures (patternUnits b) (c .before .form-of .ensures .3)
+    ∙ finite (above-zero (c .before .before)) (omega arith)
 
 returns-3 : tie.Need-returns-3
-returns-3 c = c .far-root .ensures ∙ finite (seen-positive (c .before .before .before)) (omega arith)
-
-returns-4 : tie.Need-returns-4
-returns-4 c =
-    let p = seen-positive (c .before .before) in
+returns-3 c =
+    let p = c .before .before .before in
     of-infinite (above p) (held (p .before)) (omega arith)
 
-returns-5 : tie.Need-returns-5
-returns-5 c = of-negative (negative (c .before .before .args .x) (c .if5 .taken))
+returns-4 : tie.Need-returns-4
+returns-4 c = of-zero (c .before .before .args .x) (c .if4 .taken)
 
-returns-6 : tie.Need-returns-6
-returns-6 c = of-neither (neither (c .before .before .args .x) (c .if5 .left) (c .before .if1 .left))
+returns-5 : tie.Need-returns-5
+returns-5 c = of-other (c .before .before .args .x) (c .before .if1 .left) (c .if4 .left)
 
 pub sqrt-spec : {M : Type 1} → statement M
 sqrt-spec =
@@ -108,11 +123,9 @@ sqrt-spec =
     wrapping-sub-u64-requires
     near-one-requires
     returns
-    wrapping-sub-u64-requires-2
-    middle-root-requires
+    form-of-requires
+    root-of-requires
     returns-2
-    far-root-requires
     returns-3
     returns-4
-    returns-5
-    returns-6)
+    returns-5)

@@ -54,8 +54,8 @@ fn digit_by_digit(m: u64) -> u64
     if r < rest { r + 1 } else { r }
 }
 
-// The whole number nearest to √(m * 2^42), from a q near it: q * (q + 1) is above m * 2^42 by over, and from q to the
-// next that grows by 2q + 2. q is nearest where it is not below 0, and below 2q.
+// The whole number nearest to √(m * 2^42), from a g near it: q * (q + 1) is above m * 2^42 by over, which from q to the
+// next grows by 2q + 2. q is nearest where over is not below 0, and below 2q.
 fn nearest_from(m: u64, g: u64, above: u64) -> u64
     requires { ⌜ (2 ^ 62 ≤ m) × (2 ^ 51 ≤ g) × (g ≤ 2 ^ 53) × Above m g above ⌝ }
     ensures { λ r. ⌜ Near (m * 2 ^ 42) r ⌝ }
@@ -101,15 +101,15 @@ fn guess(x: f64, y: f64) -> f64 {
     let p = k * k + 0.7158848417965896;
     let half = a * l * p;
     let j = y * l * p;
-    // g is √x to 25 or 26 digits, so that x - g * g is exact, and √x is g + (x - g * g) / (√x + g), whose divisor is
-    // 1 / (j * (7/4 - (g + half) * j)) to 38 digits
+    // g is √x to 25 or 26 digits, so that x - g * g is exact, and √x is g + (x - g * g) / (√x + g), where
+    // j * (7/4 - (g + half) * j) is 1 / (√x + g) to 38 digits
     let far = a * 268435456.0;
     let g = (a + a) * l * p + far - far;
     g + (x - g * g) * j * (1.7500000000015299 - (g + half) * j)
 }
 
-// A number above zero: x from 2^-959 to 2^961, its pattern b, and the exponent k of the root that is sought, which has
-// the digits of the root of x.
+// A float x from 2^-959 to 2^961, its pattern b, and the exponent k of the root that is sought, which has the digits of
+// the root of x. A normal number's own k is half of its field and one, rounded down, and 510.
 struct Form {
     x: f64,
     b: u64,
@@ -130,6 +130,7 @@ fn form_of(x: f64, b: u64) -> Form
         };
     }
     if b < FIELD {
+        // of 2^1074 times as many the root is 2^537 times as large
         let y = b as f64;
         let f = f64::to_bits(y);
         return Form {

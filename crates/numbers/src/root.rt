@@ -158,11 +158,11 @@ fn start(b: u64) -> f64
     f64::from_bits(0x5fe0_b800_0000_0000 - b / 2)
 }
 
-// The pattern of a float above zero, and 0 for any other.
+// The pattern of a float that is not below zero, and 0 for any other.
 fn pattern(g: f64) -> u64
     ensures { λ r. ⌜ (0 < r → r ≡ toBits binary64 g) ⌝ }
 {
-    if g > 0.0 { f64::to_bits(g) } else { 0 }
+    if g >= 0.0 { f64::to_bits(g) } else { 0 }
 }
 
 // The guess itself, where it has the root's pattern: a float that is returned as it is waits for no test.

@@ -10,8 +10,9 @@
 #include <stdint.h>
 #include <stdio.h>
 #include <stdlib.h>
-#include <string.h>
 #include <time.h>
+
+#include "patterns.h"
 
 enum { CALLS = 256, PASSES = 40, MOST = 2046 };
 
@@ -52,13 +53,6 @@ static double throughput(function *f, double x)
         answers[i] = f(x);
     sink = answers[CALLS - 1];
     return seconds() - from;
-}
-
-static double number(uint64_t bits)
-{
-    double x;
-    memcpy(&x, &bits, sizeof x);
-    return x;
 }
 
 static uint64_t draw(void)

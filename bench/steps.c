@@ -19,6 +19,7 @@
 #include <ucontext.h>
 
 #include "lens.h"
+#include "patterns.h"
 #include "pilingrue.h"
 
 /* A number's role in a record says how an ordinary one is drawn: Vertex, Index, Curvature, K, Semi-diameter, Radius; A
@@ -183,18 +184,6 @@ static uint64_t draw(void) {
 
 static int below(int n) { return (int)(draw() % (uint64_t)n); }
 static double between(double low, double high) { return low + (high - low) * 0x1p-53 * (double)(draw() >> 11); }
-
-static double number(uint64_t bits) {
-    double x;
-    __builtin_memcpy(&x, &bits, sizeof x);
-    return x;
-}
-
-static uint64_t pattern(double x) {
-    uint64_t bits;
-    __builtin_memcpy(&bits, &x, sizeof bits);
-    return bits;
-}
 
 /* A lens of millimetres, and a beam that comes to it from the left. */
 static double ordinary(char role) {

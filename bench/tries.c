@@ -7,22 +7,12 @@
 #include <stdlib.h>
 #include <string.h>
 
+#include "patterns.h"
+
 double measured_sqrt(double);
 
 enum { SPLIT = 1 << 21, NEAR = 1 << 17 };
 static const uint64_t FIELD = UINT64_C(1) << 52, ONE = UINT64_C(0x3ff0000000000000);
-
-static uint64_t bits(double x) {
-    uint64_t b;
-    memcpy(&b, &x, sizeof b);
-    return b;
-}
-
-static double number(uint64_t b) {
-    double x;
-    memcpy(&x, &b, sizeof x);
-    return x;
-}
 
 static uint64_t seed = UINT64_C(88172645463325252);
 
@@ -49,9 +39,9 @@ static struct {
 
 /* How the guess at the number of this pattern fares: a subnormal one's is made at its units, a far one's from 1 to 4. */
 static void fare(uint64_t b) {
-    uint64_t f = b < FIELD ? bits((double)b) : b / FIELD - 64 < 1920 ? b : (b + FIELD) % (2 * FIELD) + ONE;
+    uint64_t f = b < FIELD ? pattern((double)b) : b / FIELD - 64 < 1920 ? b : (b + FIELD) % (2 * FIELD) + ONE;
     uint64_t m = (f % FIELD + FIELD) << 11 >> f / FIELD % 2;
-    uint64_t q = bits(guess(number(f), start(f))) % FIELD + FIELD;
+    uint64_t q = pattern(guess(number(f), start(f))) % FIELD + FIELD;
     uint64_t a = q / SPLIT, c = q % SPLIT, d = m - a * a, off = d - a * c / (SPLIT / 2);
     if (off + NEAR >= 2 * NEAR)
         told.digits++;

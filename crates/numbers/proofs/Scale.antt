@@ -52,13 +52,13 @@ product : (n m v u a c : ℕ) → n * a ≡ m * (v * u) → n * (a * (a * c)) �
 product n m v u a c e = let t = ap (λ (x : ℕ). x * (a * c)) e in omega arith
 
 -- a number of n units, whose 53 digits are m, in the form above
-pub even : (n m p : ℕ) → n * 2 ^ 52 ≡ m * 2 ^ p → n * 2 ^ 1074 ≡ m * (p % 2 + 1) * 2 ^ 52 * 2 ^ (2 * (p / 2 + 485))
+even : (n m p : ℕ) → n * 2 ^ 52 ≡ m * 2 ^ p → n * 2 ^ 1074 ≡ m * (p % 2 + 1) * 2 ^ 52 * 2 ^ (2 * (p / 2 + 485))
 even n m p e =
     let s : 2 ^ (2 * (p / 2 + 485)) ≡ 2 ^ (2 * (p / 2)) * 2 ^ 970 = rw mul-add (pow-add 2 (2 * (p / 2)) 970) in
     let q = power p (p % 2) (p / 2) (omega arith) (omega arith) in
     rw s (product n m (p % 2 + 1) (2 ^ (2 * (p / 2))) (2 ^ 52) (2 ^ 970) (e ∙ ap (λ (x : ℕ). m * x) q))
 
-pub at-most-twice : (m p : ℕ) → m * (p % 2) ≤ m * 1
+at-most-twice : (m p : ℕ) → m * (p % 2) ≤ m * 1
 at-most-twice m p = mul-le-mul-left m (omega arith)
 
 -- the 53 digits d of the number whose pattern is b, and their place p

@@ -5,7 +5,7 @@ use mathlib.Core.Path.{_≡_}
 use Prim.Native.Nat.{ℕ, _+_, _-_, _*_, _%_, _^_, _≤_, _<_}
 use native.Mathlib.Nat.{mul-le-mul, lt-of-not-le}
 use native.Mathlib.Omega.{arith}
-use Rattle.numbers.specs.Parts.{Near, Above}
+use Rattle.numbers.specs.Parts.{Above}
 use Rattle.numbers.proofs.Roots.{before}
 use Rattle.numbers.proofs.root.nearest_from.Statement.{statement}
 use Rattle.numbers.proofs.root.nearest_from.Tie as tie

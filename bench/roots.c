@@ -80,9 +80,14 @@ struct outcome {
     double median, worst, worst_input;
 };
 
+/* The longest time of one call of ours that waits, over all rows, and the processor's median in the first. */
+static double longest, longest_input, processors;
+
+static double ours_took[MOST], processor_took[MOST];
+
 static struct outcome compare(double measure(function *, double), function *ours, const double *inputs, int n)
 {
-    static double a[MOST], b[MOST];
+    double *a = ours_took, *b = processor_took, sorted[MOST];
     struct outcome o = {0, 0, 0};
     for (int i = 0; i < n; i++)
         a[i] = b[i] = INFINITY;
@@ -94,13 +99,20 @@ static struct outcome compare(double measure(function *, double), function *ours
     for (int i = 0; i < n; i++)
         if (a[i] / b[i] > o.worst)
             o.worst = a[i] / b[i], o.worst_input = inputs[i];
-    o.median = median(a, n) / median(b, n);
+    memcpy(sorted, a, sizeof *a * (size_t)n);
+    o.median = median(sorted, n) / median(b, n);
     return o;
 }
 
 static void row(const char *name, function *ours, const double *inputs, int n)
 {
-    struct outcome l = compare(latency, ours, inputs, n), t = compare(throughput, ours, inputs, n);
+    struct outcome l = compare(latency, ours, inputs, n);
+    for (int i = 0; i < n; i++)
+        if (ours_took[i] > longest)
+            longest = ours_took[i], longest_input = inputs[i];
+    if (processors == 0)
+        processors = median(processor_took, n);
+    struct outcome t = compare(throughput, ours, inputs, n);
     printf("%-22s %5d %10.2f %10.2f ", name, n, l.median, l.worst);
     printf("%12.2f %10.2f   %a\n", t.median, t.worst, l.worst_input);
 }
@@ -125,6 +137,9 @@ int main(void)
     for (n = 0; n < 512; n++)
         inputs[n] = number(0x3ff0000000000000u - 16 + draw() % 33);
     row("within 16 ulps of 1", measured_sqrt, inputs, n);
+    for (n = 0; n < 512; n++)
+        inputs[n] = 1 + ((double)(draw() >> 11) * 0x1p-53 - 0.5) / 16;
+    row("within 1/32 of 1", measured_sqrt, inputs, n);
     for (n = 0; n < 512; n++) {
         double root = (double)(1 + draw() % 67108864);
         inputs[n] = root * root;
@@ -133,5 +148,7 @@ int main(void)
     for (n = 0; n < 512; n++)
         inputs[n] = number(1 + (draw() >> 12 >> n % 52));
     row("subnormal", measured_sqrt, inputs, n);
+    printf("the longest wait: %.2f times the processor's median of the first row, at %a\n", longest / processors,
+           longest_input);
     return 0;
 }

@@ -1,6 +1,7 @@
 -- Laws that several proofs use, and the theorems on the square root (`Nearest`). What is `pub` is lent to the crates
 -- above.
 mod Roots
+mod Excess
 mod Patterns
 mod Scale
 pub mod Cases

@@ -189,7 +189,7 @@ nearer (fin false (suc m) e) (h, p) =
     go : (b : ℕ) → units x ≡ patternUnits b → 0 < b → b < 0x7ff0_0000_0000_0000 → Nearer x (rootUnits (units x))
     go b u o t = elim (decLe (2 ^ 52) b) [
       | yes l ↦ scaled x b _ _ u (scale (normal-digits b (b / 2 ^ 52 - 1) (omega arith) (omega arith)))
-      | no l ↦ scaled x b _ _ u (scale (moved b o (lt-of-not-le l) .1))
+      | no l ↦ scaled x b _ _ u (scale (moved b o (lt-of-not-le l) .digits))
     ]
 
 -- two that are not equal have one above the other

@@ -3,7 +3,7 @@
 use mathlib.Core.Path.{_≡_, sym, ap, _∙_, subst}
 use mathlib.Core.Logic.{inl, inr}
 use Prim.Native.Nat.{ℕ, suc, _+_, _-_, _*_, _/_, _%_, _^_, _≤_, _<_}
-use native.Mathlib.Nat.{eq-zero-or-pos, lt-of-not-le, mul-div-cancel, mul-right-comm, mul-le-mul-right}
+use native.Mathlib.Nat.{eq-zero-or-pos, lt-of-not-le, mod-eq-of-lt, mul-div-cancel, mul-right-comm, mul-le-mul-right}
 use native.Mathlib.Nat.{mul-lt-mul-of-pos-right, div-lt-iff-lt-mul}
 use native.Mathlib.Decide.{decLe}
 use native.Mathlib.Omega.{arith}
@@ -28,7 +28,7 @@ units-of nan s a v = absurd v
 units-of (inf t) s a v = absurd v
 units-of (fin t m e) s a v = ap (λ (y : ℕ). y / down e) (v .1) ∙ mul-div-cancel a (down-pos e)
 
-pub low-units : (b : ℕ) → b < 2 ^ 52 → patternUnits b ≡ b * 1
+low-units : (b : ℕ) → b < 2 ^ 52 → patternUnits b ≡ b * 1
 low-units b h = let z : b / 2 ^ 52 - 1 ≡ 0 = omega arith in rw z (omega arith)
 
 -- The units of a number whose pattern lies below infinity's.
@@ -81,11 +81,17 @@ module _ (m : ℕ) (e : ℤ) (h : T (fits binary64 (fin false (suc m) e))) where
 pub join : (i j k : ℕ) → i + j ≡ k → 2 ^ k ≡ 2 ^ i * 2 ^ j
 join i j k e = rw (← e) (pow-add 2 i j)
 
--- The digits of a subnormal number, moved up by some i places.
-pub moved : (b : ℕ) → 0 < b → b < 2 ^ 52 → (i : ℕ) × Digits b (b * 2 ^ i) (52 - i)
+-- The digits of a subnormal number, moved up: z is how many zeros stand above them in 64 places.
+pub record Moved (b z : ℕ) : Type 0 where
+  pub least : 11 ≤ z
+  pub most : z ≤ 63
+  pub kept : b * 2 ^ (z - 11) % 2 ^ 64 ≡ b * 2 ^ (z - 11)
+  pub digits : Digits b (b * 2 ^ (z - 11)) (52 - (z - 11))
+
+pub moved : (b : ℕ) → 0 < b → b < 2 ^ 52 → Moved b (leadingZeros 64 b)
 moved b p h = go (leadingZeros 64 b) (leading-top 64 b p (omega arith))
   where
-    go : (z : ℕ) → (j : ℕ) × (z + suc j ≡ 64) × (2 ^ j ≤ b) × (b < 2 ^ suc j) → (i : ℕ) × Digits b (b * 2 ^ i) (52 - i)
+    go : (z : ℕ) → (j : ℕ) × (z + suc j ≡ 64) × (2 ^ j ≤ b) × (b < 2 ^ suc j) → Moved b z
     go z (j, e, l, u) =
         let i = z - 11 in
         let jl : j < 52 = lt-of-not-le (λ (g : 52 ≤ j). let q : 2 ^ 52 ≤ 2 ^ j = pow-mono g in omega arith) in
@@ -95,4 +101,9 @@ moved b p h = go (leadingZeros 64 b) (leading-top 64 b p (omega arith))
         let u′ : b < 2 * 2 ^ j = omega arith in
         let hi : b * 2 ^ i < 2 ^ 53 = omega (arith, mul-lt-mul-of-pos-right u′ (pow-pos i)) in
         let w : b * 1 * 2 ^ 52 ≡ b * 2 ^ i * 2 ^ (52 - i) = omega (arith, ap (λ (y : ℕ). b * y) t) in
-        (i, record { least = lo; most = hi; exponent = omega arith; place = rw (low-units b h) w })
+        record {
+          least = omega arith;
+          most = omega arith;
+          kept = mod-eq-of-lt (omega arith);
+          digits = record { least = lo; most = hi; exponent = omega arith; place = rw (low-units b h) w };
+        }

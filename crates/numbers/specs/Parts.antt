@@ -15,12 +15,19 @@ abbrev pub Above : ℕ → ℕ → ℕ → Type 0
 Above m q over =
     (over < 2 ^ 63 → q * (q + 1) ≡ m * 2 ^ 42 + over) × (2 ^ 63 ≤ over → q * (q + 1) + 2 ^ 64 ≡ m * 2 ^ 42 + over)
 
+-- g has 53 digits, and its square is near m * 2 ^ 42
+abbrev pub Close : ℕ → ℕ → Type 0
+Close m g = (2 ^ 52 ≤ g) × (g < 2 ^ 53) × (g * g ≤ m * 2 ^ 42 + 2 ^ 58) × (m * 2 ^ 42 ≤ g * g + 2 ^ 58)
+
 -- a normal number whose pattern is b is this many times 2 ^ 52 and an even power of two
 abbrev pub radicand : ℕ → ℕ
 radicand b = (b - (b / 2 ^ 52 - 1) * 2 ^ 52) * ((b / 2 ^ 52 - 1) % 2 + 1)
 
--- the number whose pattern is b has the digits of the normal one whose pattern is f, and its root the exponent k
+-- 2 ^ 1074 times the units of the number whose root is 2 ^ up times smaller than that of the one whose pattern is b
+abbrev pub formRadicand : ℕ → ℕ → ℕ
+formRadicand b up = radicand b * 2 ^ 52 * 2 ^ (2 * ((b + 2 ^ 52) / 2 ^ 53 + 510 - up))
+
+-- the number whose pattern is b has the digits of the normal one whose pattern is f, and a root 2 ^ up times smaller
 abbrev pub Formed : ℕ → ℕ → ℕ → Type 0
-Formed b f k =
-    (2 ^ 52 ≤ f) × (f < 0x7ff0_0000_0000_0000) × (k < 2046)
-    × (patternUnits b * 2 ^ 1074 ≡ radicand f * 2 ^ 52 * 2 ^ (2 * k))
+Formed b f up =
+    (2 ^ 52 ≤ f) × (f < 0x7ff0_0000_0000_0000) × (up ≤ 256) × (patternUnits b * 2 ^ 1074 ≡ formRadicand f up)

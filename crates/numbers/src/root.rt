@@ -4,20 +4,18 @@
 // A number's units are multiples of 2^-1074. Where n units times 2^1074 is m * 2^42 * 2^(2k), and q is the whole number
 // nearest to √(m * 2^42), the root is q * 2^k units, whose pattern is k * 2^52 + q.
 ghost use mathlib.Core.Path.{_≡_};
-ghost use Prim.Native.Nat.{ℕ, _+_, _*_, _/_, _%_, _^_, _≤_, _<_};
-ghost use lib.Ieee.{toBits, binary64};
+ghost use mathlib.Core.Bool.{true};
+ghost use Prim.Native.Nat.{ℕ, _+_, _-_, _*_, _%_, _^_, _≤_, _<_};
 ghost use Rattle.numbers.specs.Arithmetic.{_<₆₄_};
 ghost use Rattle.numbers.specs.Root.{root, rootUnits};
-ghost use Rattle.numbers.specs.Parts.{Near, Above, patternUnits, radicand, Formed};
+ghost use Rattle.numbers.specs.Parts.{Near, Above, Close, patternUnits, formRadicand, Formed};
 use crate::basic::INFINITY;
 
 // 2^52: the weight of the exponent's field in a pattern.
 const FIELD: u64 = 0x10_0000_0000_0000;
 
-// The exponent's fields of numbers from 2^-959 to 2^961: the least, and how many they are.
-const LEAST_MIDDLE: u64 = 64;
-
-const MIDDLES: u64 = 1920;
+// The pattern of 2^-959: from there on a guess neither meets subnormal numbers nor overflows.
+const LEAST: u64 = 0x400_0000_0000_0000;
 
 // The patterns of 1, and of the number 2^27 units in the last place below it.
 const ONE: u64 = 0x3ff0_0000_0000_0000;
@@ -27,8 +25,8 @@ const BELOW_ONE: u64 = 0x3fef_ffff_f800_0000;
 // 2^21: the weight of the upper 32 digits of a guess at a root's digits.
 const SPLIT: u64 = 0x20_0000;
 
-// 2^17: up to here a difference of the upper digits is small, and the guess at most 64 off.
-const NEAR: u64 = 0x2_0000;
+// 2^15: up to here a difference of the upper digits is small, and the guess at most 16 off.
+const NEAR: u64 = 0x8000;
 
 // 2^63: from here on a difference that may have wrapped is one below zero.
 const BELOW_ZERO: u64 = 0x8000_0000_0000_0000;
@@ -54,41 +52,49 @@ fn digit_by_digit(m: u64) -> u64
     if r < rest { r + 1 } else { r }
 }
 
-// The whole number nearest to √(m * 2^42), from a g near it: q * (q + 1) is above m * 2^42 by over, which from q to the
-// next grows by 2q + 2. q is nearest where over is not below 0, and below 2q.
-fn nearest_from(m: u64, g: u64, above: u64) -> u64
-    requires { ⌜ (2 ^ 62 ≤ m) × (2 ^ 51 ≤ g) × (g ≤ 2 ^ 53) × Above m g above ⌝ }
-    ensures { λ r. ⌜ Near (m * 2 ^ 42) r ⌝ }
-{
-    let mut q = g;
-    let mut over = above;
-    while BELOW_ZERO <= over {
-        q += 1;
-        over = std::num::wrapping_add_u64(over, q * 2);
-    }
-    while q * 2 <= over {
-        over -= q * 2;
-        q -= 1;
-    }
-    q
-}
-
-// The whole number nearest to √(m * 2^42), from a guess g. With g = a * 2^21 + c and d = m - a * a, the excess of
-// g * (g + 1) over m * 2^42 is a * c * 2^22 - d * 2^42 + c * c + g, which fits a word where d is near a * c / 2^20.
-fn nearest(m: u64, g: u64) -> u64
-    requires { ⌜ (2 ^ 62 ≤ m) × (2 ^ 52 ≤ g) × (g < 2 ^ 53) ⌝ }
-    ensures { λ r. ⌜ Near (m * 2 ^ 42) r ⌝ }
+// How far (g - 1) * g is above m * 2^42, which may have wrapped below 0. With g = a * 2^21 + c and d = m - a * a that is
+// a * c * 2^22 - d * 2^42 + c * c - g.
+fn excess(m: u64, g: u64) -> u64
+    requires { ⌜ g < 2 ^ 53 ⌝ }
+    ensures { λ r. ⌜ (r + (m * 2 ^ 42 + g)) % 2 ^ 64 ≡ g * g % 2 ^ 64 ⌝ }
 {
     let a = g / SPLIT;
     let c = g % SPLIT;
-    let p = a * c;
     let d = std::num::wrapping_sub_u64(m, a * a);
-    let off = std::num::wrapping_sub_u64(d, p / 0x10_0000);
-    if std::num::wrapping_add_u64(off, NEAR) < NEAR * 2 {
-        let upper = std::num::wrapping_sub_u64(p << 22, d << 42);
-        return nearest_from(m, g, std::num::wrapping_add_u64(upper, c * c + g));
+    let square = std::num::wrapping_add_u64((a * c) << 22, c * c);
+    std::num::wrapping_sub_u64(square, std::num::wrapping_add_u64(d << 42, g))
+}
+
+// Whether g is so near √(m * 2^42) that its excess fits a word: d has to be near a * c / 2^20.
+fn is_close(m: u64, g: u64) -> bool
+    requires { ⌜ 2 ^ 62 ≤ m ⌝ }
+    ensures { λ r. ⌜ (r ≡ true → Close m g) ⌝ }
+{
+    if g / FIELD != 1 {
+        return false;
     }
-    digit_by_digit(m)
+    let a = g / SPLIT;
+    let c = g % SPLIT;
+    let d = std::num::wrapping_sub_u64(m, a * a);
+    let off = std::num::wrapping_sub_u64(d, a * c / 0x10_0000);
+    std::num::wrapping_add_u64(off, NEAR) < NEAR * 2
+}
+
+// How many steps it is from g up to the whole number nearest to √(m * 2^42): that is the first q for which q * (q + 1) is
+// not below m * 2^42. It is above it by over, which from q to the next grows by 2q + 2.
+fn steps_up(m: u64, g: u64, above: u64) -> u64
+    requires { ⌜ (2 ^ 51 ≤ g) × (g ≤ 2 ^ 53) × Above m g above × (g * g < m * 2 ^ 42 + g) ⌝ }
+    ensures { λ r. ⌜ Near (m * 2 ^ 42) (g + r) ⌝ }
+{
+    let mut n = 0u64;
+    let mut q = g;
+    let mut over = above;
+    while BELOW_ZERO <= over {
+        n += 1;
+        q += 1;
+        over = std::num::wrapping_add_u64(over, q * 2);
+    }
+    n
 }
 
 // A float near √x, for a y near 0.77 / √x: the nearest but for about one in three hundred. Nothing is promised of it.
@@ -108,43 +114,43 @@ fn guess(x: f64, y: f64) -> f64 {
     g + (x - g * g) * j * (1.7500000000015299 - (g + half) * j)
 }
 
-// A float x from 2^-959 to 2^961, its pattern b, and the exponent k of the root that is sought, which has the digits of
-// the root of x. A normal number's own k is half of its field and one, rounded down, and 510.
+// The pattern of a number that has the digits of the one whose root is sought, and the power of two that its root is
+// larger by.
 struct Form {
-    x: f64,
     b: u64,
-    k: u64,
+    up: u64,
 }
 
-// Far from 1, where the guess would overflow or meet subnormal numbers, at which processors are slow, the guess is made
-// at a number that has the same digits: from 1 to 4, or for a subnormal number that of its units.
-fn form_of(x: f64, b: u64) -> Form
+// Below 2^-959, where processors are slow, and the guess less near, the guess is made at a number 2^512 times as large.
+fn form_of(b: u64) -> Form
     requires { ⌜ (0 < b) × (b < 0x7ff0_0000_0000_0000) ⌝ }
-    ensures { λ r. ⌜ Formed b (r .b) (r .k) ⌝ }
+    ensures { λ r. ⌜ Formed b (r .b) (r .up) ⌝ }
 {
-    if std::num::wrapping_sub_u64(b / FIELD, LEAST_MIDDLE) < MIDDLES {
-        return Form {
-            x,
-            b,
-            k: (b + FIELD) / (2 * FIELD) + 510,
-        };
+    if LEAST <= b {
+        return Form { b, up: 0 };
     }
     if b < FIELD {
-        // of 2^1074 times as many the root is 2^537 times as large
-        let y = b as f64;
-        let f = f64::to_bits(y);
+        // a subnormal number's digits are moved up to where a normal one's stand
+        let z = u64::leading_zeros(b) as u64 - 11;
         return Form {
-            x: y,
-            b: f,
-            k: (f + FIELD) / (2 * FIELD) - 27,
+            b: (b << z) + (512 - z) * FIELD,
+            up: 256,
         };
     }
-    let f = (b + FIELD) % (2 * FIELD) + ONE;
     Form {
-        x: f64::from_bits(f),
-        b: f,
-        k: (b + FIELD) / (2 * FIELD) + 510,
+        b: b + 512 * FIELD,
+        up: 256,
     }
+}
+
+// The float whose pattern is that of the form, which for most numbers is x itself. Nothing is promised of it.
+fn float_of(x: f64, b: u64, up: u64) -> f64
+    requires { ⌜ b < 0x7ff0_0000_0000_0000 ⌝ }
+{
+    if up == 0 {
+        return x;
+    }
+    f64::from_bits(b)
 }
 
 // A float near 0.77 / √x, for an x whose pattern is b. Within 1/16 of 1, where lie the radicands of surfaces that are
@@ -158,26 +164,31 @@ fn start(b: u64) -> f64
     f64::from_bits(0x5fe0_b800_0000_0000 - b / 2)
 }
 
-// The pattern of a float that is not below zero, and 0 for any other.
-fn pattern(g: f64) -> u64
-    ensures { λ r. ⌜ (0 < r → r ≡ toBits binary64 g) ⌝ }
+// From a guess g at the root of the number whose pattern is b. A guess that is the root is returned as it is, and waits
+// for no test.
+fn root_of(g: f64, b: u64, up: u64) -> f64
+    requires { ⌜ (2 ^ 52 ≤ b) × (b < 0x7ff0_0000_0000_0000) × (up ≤ 256) ⌝ }
+    ensures { λ r. ⌜ ((n : ℕ) → n * 2 ^ 1074 ≡ formRadicand b up → r ≡ rootUnits n) ⌝ }
 {
-    if g >= 0.0 { f64::to_bits(g) } else { 0 }
-}
-
-// The guess itself, where it has the root's pattern: a float that is returned as it is waits for no test.
-fn root_of(f: Form) -> f64
-    requires { ⌜ (2 ^ 52 ≤ f .b) × (f .b < 0x7ff0_0000_0000_0000) × (f .k < 2046) ⌝ }
-    ensures { λ r. ⌜ ((n : ℕ) → n * 2 ^ 1074 ≡ radicand (f .b) * 2 ^ 52 * 2 ^ (2 * f .k) → r ≡ rootUnits n) ⌝ }
-{
-    let g = guess(f.x, start(f.b));
-    let w = pattern(g);
-    let m = ((f.b % FIELD + FIELD) << 11) >> (f.b / FIELD % 2);
-    let r = f.k * FIELD + nearest(m, w % FIELD + FIELD);
-    if r == w {
-        return g;
+    let m = (b % FIELD + FIELD) << (11 - b / FIELD % 2);
+    let k = (b + FIELD) / (2 * FIELD) + 510;
+    if g >= 0.0 {
+        let w = f64::to_bits(g);
+        let q = std::num::wrapping_sub_u64(w, k * FIELD);
+        if is_close(m, q) {
+            let over = excess(m, q);
+            // (q - 2) * (q - 1) is below m * 2^42, and so the nearest not below q - 1
+            if BELOW_ZERO <= std::num::wrapping_sub_u64(over, q * 2 - 2) {
+                let n = steps_up(m, q - 1, over);
+                let change = std::num::wrapping_sub_u64(n, up * FIELD + 1);
+                if change == 0 {
+                    return g;
+                }
+                return f64::from_bits(std::num::wrapping_add_u64(w, change));
+            }
+        }
     }
-    f64::from_bits(r)
+    f64::from_bits((k - up) * FIELD + digit_by_digit(m))
 }
 
 // The root of a number within 2^27 units in the last place of 1: halfway from 1, and one unit down where that is
@@ -199,7 +210,8 @@ pub fn sqrt(x: f64) -> f64
             return near_one(b);
         }
         if b < INFINITY {
-            return root_of(form_of(x, b));
+            let f = form_of(b);
+            return root_of(guess(float_of(x, f.b, f.up), start(f.b)), f.b, f.up);
         }
         return x;
     }

@@ -95,14 +95,23 @@ returns c = c .near-one .ensures ∙ finite (c .before .before .before) (omega a
 form-of-requires : tie.Need-form-of-requires
 form-of-requires c κs = omega (arith, within (above-zero c))
 
+float-of-requires : tie.Need-float-of-requires
+float-of-requires c κs = c .form-of .ensures .1
+
+start-requires : tie.Need-start-requires
+start-requires c κs = c .before .form-of .ensures .1
+
+guess-requires : tie.Need-guess-requires
+guess-requires c κs = search needs
+
 root-of-requires : tie.Need-root-of-requires
-root-of-requires c κs = let f = c .form-of .ensures in (f .0, f .1, f .2)
+root-of-requires c κs = let f = c .before .before .before .form-of .ensures in (f .0, f .1, f .2)
 
 returns-2 : tie.Need-returns-2
 returns-2 c =
-    let b = toBits binary64 (above-zero (c .before .before) .before .args .x) in
-    c .root-of .ensures (patternUnits b) (c .before .form-of .ensures .3)
-    ∙ finite (above-zero (c .before .before)) (omega arith)
+    let f = c .before .before .before .before in
+    let b = toBits binary64 (above-zero (f .before) .before .args .x) in
+    c .root-of .ensures (patternUnits b) (f .form-of .ensures .3) ∙ finite (above-zero (f .before)) (omega arith)
 
 returns-3 : tie.Need-returns-3
 returns-3 c =
@@ -124,6 +133,9 @@ sqrt-spec =
     near-one-requires
     returns
     form-of-requires
+    float-of-requires
+    start-requires
+    guess-requires
     root-of-requires
     returns-2
     returns-3

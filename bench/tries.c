@@ -11,8 +11,8 @@
 
 double measured_sqrt(double);
 
-enum { SPLIT = 1 << 21, NEAR = 1 << 17 };
-static const uint64_t FIELD = UINT64_C(1) << 52, ONE = UINT64_C(0x3ff0000000000000);
+enum { SPLIT = 1 << 21, NEAR = 1 << 15 };
+static const uint64_t FIELD = UINT64_C(1) << 52, ONE = UINT64_C(0x3ff0000000000000), BELOW_ZERO = UINT64_C(1) << 63;
 
 static uint64_t seed = UINT64_C(88172645463325252);
 
@@ -37,15 +37,22 @@ static struct {
     uint64_t tried, wrong, off, digits;
 } told;
 
-/* How the guess at the number of this pattern fares: a subnormal one's is made at its units, a far one's from 1 to 4. */
+/* The pattern of the number at which the guess is made: below 2^-959 it is 2^512 times as large. */
+static uint64_t form(uint64_t b) {
+    if (b >= 64 * FIELD) return b;
+    uint64_t z = b < FIELD ? (uint64_t)__builtin_clzll(b) - 11 : 0;
+    return (b << z) + (512 - z) * FIELD;
+}
+
+/* How the guess at the number of this pattern fares. */
 static void fare(uint64_t b) {
-    uint64_t f = b < FIELD ? pattern((double)b) : b / FIELD - 64 < 1920 ? b : (b + FIELD) % (2 * FIELD) + ONE;
-    uint64_t m = (f % FIELD + FIELD) << 11 >> f / FIELD % 2;
-    uint64_t q = pattern(guess(number(f), start(f))) % FIELD + FIELD;
+    uint64_t f = form(b), m = (f % FIELD + FIELD) << (11 - f / FIELD % 2);
+    uint64_t q = pattern(guess(number(f), start(f))) - ((f + FIELD) / (2 * FIELD) + 510) * FIELD;
     uint64_t a = q / SPLIT, c = q % SPLIT, d = m - a * a, off = d - a * c / (SPLIT / 2);
-    if (off + NEAR >= 2 * NEAR)
+    uint64_t over = (a * c << 22) - (d << 42) + c * c - q;
+    if (q / FIELD != 1 || off + NEAR >= 2 * NEAR || over - (2 * q - 2) < BELOW_ZERO)
         told.digits++;
-    else if ((a * c << 22) - (d << 42) + c * c + q >= 2 * q)
+    else if (over < BELOW_ZERO || over + 2 * q >= BELOW_ZERO)
         told.off++;
 }
 
@@ -81,9 +88,9 @@ int main(int words, char **word) {
     tell("from 1 to 4");
     for (long i = 0; i < n; i++) try(draw() >> 12 >> draw() % 52);
     tell("subnormal numbers");
-    for (uint64_t e = 0; e < 2047; e++)
-        for (uint64_t i = 0; i < (uint64_t)(n / 2047); i++) try(e * FIELD + (i % 2 ? i / 2 : -(i / 2) - 1));
-    tell("around each power of two");
+    for (uint64_t e = 0; e < 2048; e++)
+        for (uint64_t i = 0; i < (uint64_t)(n / 2048); i++) try(e * FIELD + (i % 2 ? i / 2 : -(i / 2) - 1));
+    tell("around each power of two, 2^1024 too");
     for (long i = 0; i < n / 5; i++) around(FIELD + draw() % FIELD, 0);
     tell("around squares");
     for (long i = 0; i < n / 5; i++) {

@@ -1,6 +1,6 @@
 /* Tries the square root of the archive on many numbers beside the processor's, and tells how its guess fared, by a copy
- * of the guess and of its test: how many were one off or more, and how many so far off that the root is worked out digit
- * by digit. Usage: tries MILLIONS [SEED]. */
+ * of the guess and of its test: how many were one off or more, and how many so far off that the root is worked out
+ * digit by digit. Usage: tries MILLIONS [SEED]. */
 #include <math.h>
 #include <stdint.h>
 #include <stdio.h>

@@ -12,7 +12,8 @@ pub record Squared (g : ℕ) : Type 0 where
   pub upper : g / 2 ^ 21 * (g / 2 ^ 21) < 2 ^ 64
   pub cross : g / 2 ^ 21 * (g % 2 ^ 21) < 2 ^ 53
   pub lower : g % 2 ^ 21 * (g % 2 ^ 21) < 2 ^ 42
-  pub whole : g * g ≡ g / 2 ^ 21 * (g / 2 ^ 21) * 2 ^ 42 + g / 2 ^ 21 * (g % 2 ^ 21) * 2 ^ 22 + g % 2 ^ 21 * (g % 2 ^ 21)
+  pub whole :
+      g * g ≡ g / 2 ^ 21 * (g / 2 ^ 21) * 2 ^ 42 + g / 2 ^ 21 * (g % 2 ^ 21) * 2 ^ 22 + g % 2 ^ 21 * (g % 2 ^ 21)
 
 pub squared : (g : ℕ) → g < 2 ^ 53 → Squared g
 squared g h =

@@ -52,8 +52,8 @@ fn digit_by_digit(m: u64) -> u64
     if r < rest { r + 1 } else { r }
 }
 
-// How far (g - 1) * g is above m * 2^42, which may have wrapped below 0. With g = a * 2^21 + c and d = m - a * a that is
-// a * c * 2^22 - d * 2^42 + c * c - g.
+// How far (g - 1) * g is above m * 2^42, which may have wrapped below 0. With g = a * 2^21 + c and d = m - a * a that
+// is a * c * 2^22 - d * 2^42 + c * c - g.
 fn excess(m: u64, g: u64) -> u64
     requires { ⌜ g < 2 ^ 53 ⌝ }
     ensures { λ r. ⌜ (r + (m * 2 ^ 42 + g)) % 2 ^ 64 ≡ g * g % 2 ^ 64 ⌝ }
@@ -80,8 +80,8 @@ fn is_close(m: u64, g: u64) -> bool
     std::num::wrapping_add_u64(off, NEAR) < NEAR * 2
 }
 
-// How many steps it is from g up to the whole number nearest to √(m * 2^42): that is the first q for which q * (q + 1) is
-// not below m * 2^42. It is above it by over, which from q to the next grows by 2q + 2.
+// How many steps it is from g up to the whole number nearest to √(m * 2^42), which is the first q whose q * (q + 1) is
+// not below m * 2^42. It is above that by over, which from q to the next grows by 2q + 2.
 fn steps_up(m: u64, g: u64, above: u64) -> u64
     requires { ⌜ (2 ^ 51 ≤ g) × (g ≤ 2 ^ 53) × Above m g above × (g * g < m * 2 ^ 42 + g) ⌝ }
     ensures { λ r. ⌜ Near (m * 2 ^ 42) (g + r) ⌝ }

@@ -30,8 +30,8 @@ wrapped m g s p l d t o r a b c e =
     let n₂ = (y + l) / 2 ^ 64 in
     let n₃ = (r + o) / 2 ^ 64 in
     same _ _ (n₂ + k + i * 2 ^ 42) (n₁ + n₃ + j)
-    (unwrapped m g s p l d x y t o r i j k n₁ n₂ n₃ (omega arith) (omega arith) (omega arith) (omega arith) (omega arith)
-    (omega arith))
+    (unwrapped m g s p l d x y t o r i j k n₁ n₂ n₃ (omega arith) (omega arith) (omega arith) (omega arith)
+    (omega arith) (omega arith))
 
 of : (c : tie.Start) → Squared (c .args .g)
 of c = squared (c .args .g) (omega arith)
@@ -44,9 +44,9 @@ returns c =
     let a = g / 2 ^ 21 in
     let b = g % 2 ^ 21 in
     rw (of start .whole)
-    (wrapped (start .args .m) g (a * a) (a * b) (b * b) (d .wrapping-sub-u64 .result) _ _ _ (d .wrapping-sub-u64 .ensures)
-    (c .before .before .wrapping-add-u64 .ensures) (c .before .wrapping-add-u642 .ensures)
-    (c .wrapping-sub-u642 .ensures))
+    (wrapped (start .args .m) g (a * a) (a * b) (b * b) (d .wrapping-sub-u64 .result) _ _ _
+    (d .wrapping-sub-u64 .ensures) (c .before .before .wrapping-add-u64 .ensures)
+    (c .before .wrapping-add-u642 .ensures) (c .wrapping-sub-u642 .ensures))
 
 pub excess-spec : {M : Type 1} → statement M
 excess-spec =

@@ -5,7 +5,7 @@ use mathlib.Core.Path.{_≡_, refl}
 use Prim.Native.Nat.{ℕ, _+_, _-_, _*_, _/_, _%_, _^_, _≤_, _<_}
 use native.Mathlib.Omega.{arith}
 use lib.Count.{leadingZeros}
-use Rattle.numbers.specs.Parts.{patternUnits, radicand, formRadicand, Formed}
+use Rattle.numbers.specs.Parts.{Formed}
 use Rattle.numbers.proofs.Scale.{Digits, scale, normal-digits}
 use Rattle.numbers.proofs.Values.{Moved, moved}
 use Rattle.numbers.proofs.root.form_of.Statement.{statement}
@@ -15,7 +15,8 @@ parity : (p x up : ℕ) → x + 52 ≡ p + 2 * up → x % 2 ≡ p % 2
 parity p x up e = omega arith
 
 -- the form that has the digits d where a normal number's stand, and 2 ^ up times as large a root
-formed : (b d p x up f : ℕ) → Digits b d p → x + 52 ≡ p + 2 * up → f ≡ d + x * 2 ^ 52 → x < 2046 → up ≤ 256 → Formed b f up
+formed : (b d p x up f : ℕ) → Digits b d p → x + 52 ≡ p + 2 * up → f ≡ d + x * 2 ^ 52 → x < 2046 → up ≤ 256 →
+    Formed b f up
 formed b d p x up f h e g l t =
     let i : f / 2 ^ 52 - 1 ≡ x = omega (arith, h) in
     let q : f - x * 2 ^ 52 ≡ d = omega arith in

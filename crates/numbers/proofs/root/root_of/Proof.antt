@@ -13,7 +13,7 @@ use lib.Ieee.Bits.{ofBits-toBits}
 use Rattle.numbers.specs.Root.{rootUnits}
 use Rattle.numbers.specs.Parts.{Near, Close, radicand, formRadicand}
 use Rattle.numbers.proofs.Excess.{close-above, close-below}
-use Rattle.numbers.proofs.Roots.{long, short}
+use Rattle.numbers.proofs.Roots.{short}
 use Rattle.numbers.proofs.Scale.{Scale, normal-scale, root-bits, no-nan-bits}
 use Rattle.numbers.proofs.root.root_of.Statement.{statement}
 use Rattle.numbers.proofs.root.root_of.Tie as tie
@@ -94,7 +94,8 @@ start c = seen c .before .before .before .before
 abbrev guessed : tie.Then3 → ℕ
 guessed c = seen c .before .before .wrapping-sub-u64 .result
 
-close : (c : tie.Then2) → Close (digits (c .before .before .before .before .args .b)) (c .before .before .wrapping-sub-u64 .result)
+close : (c : tie.Then2) →
+    Close (digits (c .before .before .before .before .args .b)) (c .before .before .wrapping-sub-u64 .result)
 close c = c .before .is-close .ensures (c .if2 .taken)
 
 steps-up-requires : tie.Need-steps-up-requires

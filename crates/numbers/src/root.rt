@@ -164,8 +164,8 @@ fn start(b: u64) -> f64
     f64::from_bits(0x5fe0_b800_0000_0000 - b / 2)
 }
 
-// From a guess g at the root of the number whose pattern is b. A guess that is the root is returned as it is, and waits
-// for no test.
+// The root that a form of b and up seeks, from a guess g at that of its number. A guess that is the root is returned as
+// it is, and waits for no test.
 fn root_of(g: f64, b: u64, up: u64) -> f64
     requires { ⌜ (2 ^ 52 ≤ b) × (b < 0x7ff0_0000_0000_0000) × (up ≤ 256) ⌝ }
     ensures { λ r. ⌜ ((n : ℕ) → n * 2 ^ 1074 ≡ formRadicand b up → r ≡ rootUnits n) ⌝ }

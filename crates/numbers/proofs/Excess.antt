@@ -4,7 +4,7 @@ use mathlib.Core.Path.{_≡_}
 use Prim.Native.Nat.{ℕ, _+_, _-_, _*_, _/_, _%_, _^_, _≤_, _<_}
 use native.Mathlib.Nat.{mul-le-mul}
 use native.Mathlib.Omega.{arith}
-use Rattle.numbers.specs.Parts.{Above, Close}
+use Rattle.numbers.specs.Parts.{Differ, Above, Close}
 use Rattle.numbers.proofs.Roots.{before}
 
 -- the square of g by its upper 32 digits and the 21 below them, none of whose products wraps
@@ -31,11 +31,8 @@ squared g h =
     parts : (g a c : ℕ) → g ≡ a * 2 ^ 21 + c → g * g ≡ a * a * 2 ^ 42 + a * c * 2 ^ 22 + c * c
     parts g a c e = rw e (omega arith)
 
--- what v, a difference of x and y as 64 digits tell it, is where they are near each other
-abbrev Differ : ℕ → ℕ → ℕ → Type 0
-Differ x y v = (v < 2 ^ 63 → x ≡ y + v) × (2 ^ 63 ≤ v → x + 2 ^ 64 ≡ y + v)
-
-pub differ : (x y v : ℕ) → x ≤ y + 2 ^ 62 → y ≤ x + 2 ^ 62 → v < 2 ^ 64 → (v + y) % 2 ^ 64 ≡ x % 2 ^ 64 → Differ x y v
+-- the difference of two numbers that are near each other, from its lower 64 digits
+differ : (x y v : ℕ) → x ≤ y + 2 ^ 62 → y ≤ x + 2 ^ 62 → v < 2 ^ 64 → (v + y) % 2 ^ 64 ≡ x % 2 ^ 64 → Differ x y v
 differ x y v a b h e = ((λ (l : v < 2 ^ 63). omega arith), (λ (l : 2 ^ 63 ≤ v). omega arith))
 
 -- the excess of a close guess is that of the number before it

@@ -10,10 +10,13 @@ Near n q = (q * q < n + q) × (n ≤ q * q + q)
 abbrev pub patternUnits : ℕ → ℕ
 patternUnits b = (b - (b / 2 ^ 52 - 1) * 2 ^ 52) * 2 ^ (b / 2 ^ 52 - 1)
 
--- over, which may have wrapped below 0, is what q * (q + 1) is above m * 2 ^ 42
+-- v, which may have wrapped below 0, is x less y
+abbrev pub Differ : ℕ → ℕ → ℕ → Type 0
+Differ x y v = (v < 2 ^ 63 → x ≡ y + v) × (2 ^ 63 ≤ v → x + 2 ^ 64 ≡ y + v)
+
+-- over is what q * (q + 1) is above m * 2 ^ 42
 abbrev pub Above : ℕ → ℕ → ℕ → Type 0
-Above m q over =
-    (over < 2 ^ 63 → q * (q + 1) ≡ m * 2 ^ 42 + over) × (2 ^ 63 ≤ over → q * (q + 1) + 2 ^ 64 ≡ m * 2 ^ 42 + over)
+Above m q over = Differ (q * (q + 1)) (m * 2 ^ 42) over
 
 -- g has 53 digits, and its square is near m * 2 ^ 42
 abbrev pub Close : ℕ → ℕ → Type 0
@@ -23,9 +26,13 @@ Close m g = (2 ^ 52 ≤ g) × (g < 2 ^ 53) × (g * g ≤ m * 2 ^ 42 + 2 ^ 58) ×
 abbrev pub radicand : ℕ → ℕ
 radicand b = (b - (b / 2 ^ 52 - 1) * 2 ^ 52) * ((b / 2 ^ 52 - 1) % 2 + 1)
 
+-- a root of 53 digits of that number is so many units, times 2 to this power
+abbrev pub exponent : ℕ → ℕ
+exponent b = (b + 2 ^ 52) / 2 ^ 53 + 510
+
 -- 2 ^ 1074 times the units of the number whose root is 2 ^ up times smaller than that of the one whose pattern is b
 abbrev pub formRadicand : ℕ → ℕ → ℕ
-formRadicand b up = radicand b * 2 ^ 52 * 2 ^ (2 * ((b + 2 ^ 52) / 2 ^ 53 + 510 - up))
+formRadicand b up = radicand b * 2 ^ 52 * 2 ^ (2 * (exponent b - up))
 
 -- the number whose pattern is b has the digits of the normal one whose pattern is f, and a root 2 ^ up times smaller
 abbrev pub Formed : ℕ → ℕ → ℕ → Type 0

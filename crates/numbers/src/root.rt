@@ -172,7 +172,7 @@ fn root_of(g: f64, b: u64, up: u64) -> f64
 {
     let m = (b % FIELD + FIELD) << (11 - b / FIELD % 2);
     let k = (b + FIELD) / (2 * FIELD) + 510;
-    if g >= 0.0 {
+    if g > 0.0 {
         let w = f64::to_bits(g);
         let q = std::num::wrapping_sub_u64(w, k * FIELD);
         if is_close(m, q) {

@@ -1,28 +1,23 @@
 -- `numbers::root::root_of` meets its contract: each answer has the pattern of the root, as root-bits of `proofs/Scale`
 -- tells it from the nearest whole number. Assumes nothing.
 use borrow.Author.Needs.{needs}
-use mathlib.Core.Path.{_≡_, refl, sym, ap, _∙_}
-use mathlib.Core.Bool.{true, not, false≢true}
+use mathlib.Core.Path.{_≡_, refl, sym, _∙_}
+use mathlib.Core.Bool.{not}
 use Prim.Native.Nat.{ℕ, zero, suc, _+_, _-_, _*_, _/_, _%_, _^_, _≤_, _<_}
 use native.Mathlib.Nat.{mod-eq-of-lt}
 use native.Mathlib.Omega.{arith}
 use denote.Floats.{passes}
 use lib.Dec.{T}
-use lib.Ieee.{Float, nan, inf, fin, binary64, isNan, le, ofBits, toBits, nanBits}
+use lib.Ieee.{binary64, ofBits, toBits, nanBits}
 use lib.Ieee.Bits.{ofBits-toBits}
 use Rattle.numbers.specs.Root.{rootUnits}
-use Rattle.numbers.specs.Parts.{Near, Close, radicand, formRadicand}
+use Rattle.numbers.specs.Parts.{Near, Close, radicand, exponent, formRadicand}
 use Rattle.numbers.proofs.Excess.{close-above, close-below}
 use Rattle.numbers.proofs.Roots.{short}
+use Rattle.numbers.proofs.Signs.{positive, no-nan}
 use Rattle.numbers.proofs.Scale.{Scale, normal-scale, root-bits, no-nan-bits}
 use Rattle.numbers.proofs.root.root_of.Statement.{statement}
 use Rattle.numbers.proofs.root.root_of.Tie as tie
-
-no-nan : (x : Float) → le (ofBits binary64 0) x ≡ true → T (not (isNan x))
-unfolding isNan le ofBits
-no-nan nan h = absurd (false≢true h)
-no-nan (inf s) h = tt
-no-nan (fin s m e) h = tt
 
 -- twice x, or x itself
 doubled : (x p q : ℕ) → p + q ≡ 1 → x * 2 ^ (11 - p) ≡ x * (q + 1) * 1024
@@ -49,9 +44,6 @@ found c =
     let e = doubled x (b / 2 ^ 52 % 2) ((b / 2 ^ 52 - 1) % 2) (next (b / 2 ^ 52) (omega arith)) in
     let s = rw d at (of c) in
     rw (d, e) (mod-eq-of-lt (omega (arith, s)))
-
-abbrev exponent : ℕ → ℕ
-exponent b = (b + 2 ^ 52) / 2 ^ 53 + 510
 
 near : (c : tie.Start) (p : ℕ) → Near (digits (c .args .b) * 2 ^ 42) p → Near (radicand (c .args .b) * 2 ^ 52) p
 near c p h = let n = rw (found c) at h in omega (arith, n)
@@ -165,7 +157,7 @@ root-of-spec =
     (λ c. search needs)
     (λ c. search needs)
     (λ c. search needs)
-    (λ c. no-nan (c .before .args .g) (c .if1 .taken))
+    (λ c. no-nan (positive (c .before .args .g) (c .if1 .taken)))
     (λ c. search needs)
     (λ c κs. search needs)
     (λ c κs. let s = c .before .before in rw (found s) (omega (arith, of s)))

@@ -26,7 +26,7 @@ Close m g = (2 ^ 52 ≤ g) × (g < 2 ^ 53) × (g * g ≤ m * 2 ^ 42 + 2 ^ 58) ×
 abbrev pub radicand : ℕ → ℕ
 radicand b = (b - (b / 2 ^ 52 - 1) * 2 ^ 52) * ((b / 2 ^ 52 - 1) % 2 + 1)
 
--- a root of 53 digits of that number is so many units, times 2 to this power
+-- the root of that number, in units, is a whole number of 53 digits times 2 to this power
 abbrev pub exponent : ℕ → ℕ
 exponent b = (b + 2 ^ 52) / 2 ^ 53 + 510
 

@@ -9,6 +9,7 @@ pub mod Choice
 pub mod Lists
 pub mod Plain
 pub mod Signs
+pub mod Order
 pub mod Finite
 mod Values
 mod Floats

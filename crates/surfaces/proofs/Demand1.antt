@@ -86,7 +86,7 @@ refraction : (i n : Vec3) (n1 n2 : Float) → Within (1 ∷ 4 ∷ 8 ∷ []) (ref
 unfolding refracted bent oneOf
 refraction i n n1 n2 = within (search either-tells)
 
-conic-normal : (p : Vec3) (s : ConicSurface) → Within (1 ∷ 4 ∷ 5 ∷ []) (conicNormal p s .line)
+pub conic-normal : (p : Vec3) (s : ConicSurface) → Within (1 ∷ 4 ∷ 5 ∷ []) (conicNormal p s .line)
 unfolding conicNormal gradientNormal oneOf
 conic-normal p s = within (search either-tells)
 

@@ -11,4 +11,5 @@ mod Passes
 pub mod Demand1
 pub mod Stops
 mod Unique
+pub mod FirstCrossing
 pub mod Chains

@@ -169,12 +169,18 @@ quadraticOf ray s =
 unfoldable pub signOf : Float → Float
 signOf b = if 0f ≤₆₄ b then 1f else neg 1f
 
+abbrev pub discriminantOf : Quadratic → Float
+discriminantOf e = e .b *₆₄ e .b -₆₄ 4f *₆₄ e .a *₆₄ e .c
+
+-- the roots are C / q and q / A
+abbrev pub qOf : Quadratic → Float
+qOf e = neg ½ *₆₄ (e .b +₆₄ signOf (e .b) *₆₄ root (discriminantOf e))
+
 unfoldable pub curvedCrossing : Ray → ConicSurface → Told Landing
 curvedCrossing ray s =
     let e = quadraticOf ray s in
-    let d = e .b *₆₄ e .b -₆₄ 4f *₆₄ e .a *₆₄ e .c in
-    let q = neg ½ *₆₄ (e .b +₆₄ signOf (e .b) *₆₄ root d) in
-    if d <₆₄ 0f then noCrossing 6 else
+    let q = qOf e in
+    if discriminantOf e <₆₄ 0f then noCrossing 6 else
     firstOn ray s (ascending (firstRoot q (e .c)) (secondRoot q (e .a)))
 
 -- the Rust's intersect_conic up to the normal

@@ -9,7 +9,7 @@ use mathlib.Core.List.{List, [], _∷_, _++_}
 use lib.Dec.{eqb}
 use lib.ListN.{length, take}
 use lib.Ieee.{Float, nan, inf, binary64, ofBits, toBits, ofInt, neg, round, add, sub, mul, div, lt, le, eq, isNan}
-use Rattle.numbers.specs.Arithmetic.{if_then_else_, decimal, 0f, ½, 1f, 2f, 4f}
+use Rattle.numbers.specs.Arithmetic.{if_then_else_, decimal, 0f, ½, 1f, 2f, 4f, 1e-4}
 use Rattle.numbers.specs.Basic.{magnitude, negative, larger, clamped, infinite}
 use Rattle.numbers.specs.Root.{root}
 use Rattle.surfaces.specs.Types.{vec, backwards, dotOf, overOf, distance, pointAt, allFinite, rayFinite, landing}
@@ -22,7 +22,7 @@ use Rattle.surfaces.specs.Snell.{refractAnswer}
 use Rattle.surfaces.specs.Conic.{conicSurface, curvatureOf, fromRadiusAnswer, fromCurvatureAnswer, conicSag}
 use Rattle.surfaces.specs.Conic.{conicSagAnswer, gradientNormal, conicNormal, conicNormalAnswer, conicFinite}
 use Rattle.surfaces.specs.Conic.{landedWithin, planeCrossing, nearSag, firstOn, kept, firstRoot, secondRoot}
-use Rattle.surfaces.specs.Conic.{ascending, quadraticOf, signOf, curvedCrossing, conicCrossing, normalAt, hitAt}
+use Rattle.surfaces.specs.Conic.{ascending, quadraticOf, qOf, signOf, curvedCrossing, conicCrossing, normalAt, hitAt}
 use Rattle.surfaces.specs.Conic.{conicMeet, conicMeetAnswer}
 use Rattle.surfaces.specs.Sags.{edgeRoot}
 use Rattle.surfaces.specs.Newton.{arrivedAt, movedBy, passAt, vertexPlane, passesFrom, newtonEnd, passStart}
@@ -150,6 +150,42 @@ hit t p = gives (record { t = t; point = p; normal = backwards; front = true })
 abbrev pub height : Float → Vec3
 height h = vec 0f 0f h
 
+-- a hit from the other side
+abbrev pub hit-from-behind : Float → Vec3 → Told HitRecord
+hit-from-behind t p = gives (record { t = t; point = p; normal = backwards; front = false })
+
+-- the candidates of a conic that is not a plane
+abbrev pub candidates : Ray → ConicSurface → List ℕ
+candidates ray s = let e = quadraticOf ray s in bits (ascending (firstRoot (qOf e) (e .c)) (secondRoot (qOf e) (e .a)))
+
+abbrev pub ball : ConicSurface
+ball = conicSurface 0f (1 over 8) 0f (whole 10)
+
+abbrev pub unit-ball : ConicSurface
+unit-ball = conicSurface 0f 1f 0f (whole 5)
+
+-- a ray that comes to the rim of the unit ball twice, at points less than 1e-6 apart
+abbrev pub along-the-rim : Ray
+along-the-rim = ray
+    (vec (ofBits binary64 0xBFF6_7DD1_CF36_5B7F) (ofBits binary64 0x3FC3_CFEF_8F79_3DBC)
+    (ofBits binary64 0x3FF3_F8AA_7E48_A610))
+    (vec (ofBits binary64 0x3FE4_03D3_DD47_385F) (ofBits binary64 0xBFE8_F7CF_C125_83B8)
+    (ofBits binary64 0xBFCF_C555_41B9_D127))
+
+-- a paraboloid whose sag is r² / 4, and a ray down to it from (-8, 0, 7)
+abbrev pub dish : Float → ConicSurface
+dish semi = conicSurface 0f ½ (neg 1f) semi
+
+abbrev pub across : Ray
+across = ray (vec (neg (whole 8)) 0f (whole 7)) (vec 4f 0f (neg (whole 3)))
+
+-- a ray from h past the vertex, so long that the vertex lies less than 1e-7 of it back
+abbrev pub past-the-vertex : Float → Ray
+past-the-vertex h = ray (height h) (vec 0f 0f (whole 2048))
+
+abbrev pub below-1e-4 : Float
+below-1e-4 = ofBits binary64 0x3F1A_36E2_EB1C_432C
+
 -- these coefficients, and no number in the slots past them
 abbrev pub these : List Float → Coefficients
 these l = record { count = length l; values = take 8 (l ++ (nan ∷ nan ∷ nan ∷ nan ∷ nan ∷ nan ∷ nan ∷ nan ∷ [])) }
@@ -257,10 +293,25 @@ cases =
     (end (surfaceEnd (flat (whole 10)) (skimming (1 over 2 ^ 50))) ⇒ end (ended (noCrossing 6) 1)) ∷
     (end (surfaceEnd (flat (whole 10)) (skimming (1 over 2 ^ 49))) ⇒ end (ended (gives (landing 1f (vec 1f 0f 0f))) 1))
     ∷
-    -- the nearer crossing of a sphere, t 2 and not 18; on a hyperboloid the sheet through the vertex, t 5 and not 3
-    (meet (conicMeetAnswer (on-axis (neg 2f)) (conicSurface 0f (1 over 8) 0f (whole 10))) ⇒ meet (hit 2f (height 0f))) ∷
+    -- which crossing: of a sphere the nearer from outside, t 2 and not 18; from inside the one on the way back, and on the
+    -- way on none, since the far half is not the sheet; on a hyperboloid the sheet through the vertex, t 5 and not 3
+    (meet (conicMeetAnswer (on-axis (neg 2f)) ball) ⇒ meet (hit 2f (height 0f))) ∷
+    (meet (conicMeetAnswer (ray (height 2f) backwards) ball) ⇒ meet (hit-from-behind 2f (height 0f))) ∷
+    (meet (conicMeetAnswer (on-axis 2f) ball) ⇒ meet (refused noHit (plain 6))) ∷
     (meet (conicMeetAnswer (on-axis (neg (whole 5))) (conicSurface 0f 1f (neg 2f) (whole 10)))
     ⇒ meet (hit (whole 5) (height 0f))) ∷
+    -- the first is beyond the semi-diameter, at r 4: 7, though the second is within, at r 1
+    (candidates across (dish 2f) ⇒ bits (1f ∷ (9 over 4) ∷ [])) ∷
+    (meet (conicMeetAnswer across (dish 2f)) ⇒ meet (refused noHit (vignetted 4f 2f))) ∷
+    (crossing (firstOn across (dish 2f) (9 over 4 ∷ [])) ⇒ crossing (gives (landing (9 over 4) (vec 1f 0f (1 over 4))))) ∷
+    -- the normal refuses at the first: 5, though there is one at the second
+    (candidates along-the-rim unit-ball ⇒ 0x3FEF_FFFE_B8B7_5845 ∷ 0x3FF0_0000_9008_B959 ∷ []) ∷
+    (meet (conicMeetAnswer along-the-rim unit-ball) ⇒ meet (refused noHit (plain 5))) ∷
+    (conicNormalAnswer (pointAt along-the-rim (ofBits binary64 0x3FF0_0000_9008_B959)) unit-ball .line .number ∷ []
+    ⇒ 1 ∷ []) ∷
+    -- the sheet rule: 1e-4 from the sag is off the sheet, and the number below is on it
+    (meet (conicMeetAnswer (past-the-vertex 1e-4) ball) ⇒ meet (refused noHit (plain 6))) ∷
+    (meet (conicMeetAnswer (past-the-vertex below-1e-4) ball) ⇒ meet (hit 0f (height below-1e-4))) ∷
     -- a negative semi-diameter is 3 for a conic and 2 for the others, after a number that is not finite, 2
     (meet (conicMeetAnswer (on-axis (neg 2f)) (conicSurface 0f 0f 0f (neg 1f))) ⇒ meet (refused noHit (plain 3))) ∷
     (meet (conicMeetAnswer (on-axis nan) (conicSurface 0f 0f 0f (neg 1f))) ⇒ meet (refused noHit (plain 2))) ∷

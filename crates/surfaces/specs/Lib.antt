@@ -10,3 +10,4 @@ pub mod Surface
 pub mod Parts
 pub mod Edges
 pub mod Demand1
+pub mod FirstCrossing

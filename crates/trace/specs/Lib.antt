@@ -6,6 +6,7 @@ pub mod File
 pub mod Parts
 pub mod Demand1
 pub mod Demand3
+pub mod FirstCrossing
 pub mod Long
 pub mod Example
 pub mod Cases

@@ -1,7 +1,7 @@
 """What is asked every time: questions with the answers that SCOPE gives them, and lines that cannot be read."""
 import math
 
-from floats import LARGEST, SMALLEST, pattern
+from floats import LARGEST, SMALLEST, of_pattern, pattern
 from operations import line
 
 INFINITY, NAN = math.inf, math.nan
@@ -15,6 +15,11 @@ FLAT_AND_FAST = [0.0, 0.0, 2.0**-30, 2.0**50, 0.0, 2.0**20]
 STEEPLY_ASIDE = [0.0, 0.0, 2.0**-30, 2.0**66, 0.0, 2.0**20]
 # a ray but for its dz, above a place where a bowl's slope is 1
 ABOVE_A_BOWL = [1.0, 0.0, 2.0, 2.0**20, 0.0]
+# a ray that comes to the rim of the unit sphere twice, at points less than 1e-6 apart
+ALONG_THE_RIM = [
+    *map(of_pattern, ("BFF67DD1CF365B7F", "3FC3CFEF8F793DBC", "3FF3F8AA7E48A610")),
+    *map(of_pattern, ("3FE403D3DD47385F", "BFE8F7CFC12583B8", "BFCFC55541B9D127")),
+]
 # a ray, and the vertex, c and k of a surface that it meets at an infinite z
 FAR_OUT = [2.0**510, 0.0, LARGEST, 0.0, 0.0, 2.0**1020, LARGEST, 2.0**-40, -1.0]
 
@@ -46,6 +51,11 @@ WORKED = [
     ("conic_intersect", [0.0, 0.0, -5.0, *UP, 0.0, 1.0, -2.0, 10.0], [1, 5.0, *VERTEX_FROM_THE_FRONT]),
     ("even_intersect", [*FLAT_AND_FAST, 0.0, 0.0, 0.0, 0.5], [1, -(2.0**-50), -1.0, 0.0, 0.0]),
     ("biconic_intersect", [*FLAT_AND_FAST, 0.0, 0.0, 0.0, 0.0, 0.0, 0.5], [7, 1.0, 0.5]),
+    # which crossing (S10): a sphere from inside; the first is beyond the semi-diameter, or has no normal
+    ("conic_intersect", [0.0, 0.0, 2.0, *DOWN, 0.0, 1 / 8, 0.0, 10.0], [1, 2.0, 0.0, 0.0, 0.0, *DOWN, 0.0]),
+    ("conic_intersect", [0.0, 0.0, 2.0, *UP, 0.0, 1 / 8, 0.0, 10.0], [6]),
+    ("conic_intersect", [-8.0, 0.0, 7.0, 4.0, 0.0, -3.0, 0.0, 1 / 2, -1.0, 2.0], [7, 4.0, 2.0]),
+    ("conic_intersect", [*ALONG_THE_RIM, 0.0, 1.0, 0.0, 5.0], [5]),
     # numbers; a root and a clamp keep -0.0, and so does Newton's start; a maximum of mixed zeros is +0.0
     ("sqrt", [-0.0], [1, -0.0]),
     ("clamp", [-0.0], [1, -0.0]),

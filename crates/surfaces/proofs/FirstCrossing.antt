@@ -18,7 +18,7 @@ use Rattle.surfaces.specs.Conic.{Quadratic, quadraticOf, discriminantOf,
 use Rattle.surfaces.specs.Conic.{firstOn, kept, firstRoot, secondRoot, ascending, curvedCrossing, conicCrossing}
 use Rattle.surfaces.specs.Conic.{conicNormal, conicFinite, normalAt, hitAt, conicMeet, conicMeetAnswer}
 use Rattle.surfaces.specs.FirstCrossing.{RootOf, c-over-q, q-over-a, Candidate, rAt, OnSheet, Crosses, First}
-use Rattle.surfaces.specs.FirstCrossing.{Never, ByFirst, meetAt, FirstCrossing, AtFirstCrossing}
+use Rattle.surfaces.specs.FirstCrossing.{Never, ByFirst, meetAt, MetAtFirst, FirstCrossing}
 use Rattle.surfaces.specs.declared.types.Vec3.{Vec3}
 use Rattle.surfaces.specs.declared.types.Ray.{Ray}
 use Rattle.surfaces.specs.declared.types.Landing.{Landing}
@@ -140,13 +140,16 @@ module _ (e : Quadratic) where
   abbrev candidates : List Float
   candidates = ascending (firstRoot q (e .c)) (secondRoot q (e .a))
 
+  first-listed : firstRoot q (e .c) ≡ counted has-c/q c/q
+  unfolding firstRoot kept
+  first-listed = nested (1e-30 <₆₄ magnitude q) (neg 1e-7 <₆₄ e .c /₆₄ q) c/q
+
+  second-listed : secondRoot q (e .a) ≡ counted has-q/a q/a
+  unfolding secondRoot kept
+  second-listed = nested ((1e-30 <₆₄ magnitude (e .a)) && (1e-30 <₆₄ magnitude q)) (neg 1e-7 <₆₄ q /₆₄ e .a) q/a
+
   paired : candidates ≡ pair c/q q/a has-c/q has-q/a
-  unfolding firstRoot secondRoot kept
-  paired =
-      rw (
-        nested (1e-30 <₆₄ magnitude q) (neg 1e-7 <₆₄ e .c /₆₄ q) c/q,
-        nested ((1e-30 <₆₄ magnitude (e .a)) && (1e-30 <₆₄ magnitude q)) (neg 1e-7 <₆₄ q /₆₄ e .a) q/a,
-      )
+  paired = rw (first-listed, second-listed)
 
   in-order : Ascends candidates
   in-order = rw paired (ordered c/q q/a (raised _) (raised _) has-c/q has-q/a)
@@ -376,8 +379,8 @@ module _ (ray : Ray) (s : ConicSurface) (finite : (rayFinite ray && conicFinite 
       (λ l. conic-normal (l .point) s later (record { by-all = refl }) .told)
       curved)
 
-  first-crossing : FirstCrossing ray s
-  first-crossing = record {
+  met-at-first : MetAtFirst ray s
+  met-at-first = record {
     by-first = told;
     only-one = only-one ray s;
     at-first = at-first decided;
@@ -385,5 +388,5 @@ module _ (ray : Ray) (s : ConicSurface) (finite : (rayFinite ray && conicFinite 
     otherwise = otherwise decided;
   }
 
-pub at-first-crossing : AtFirstCrossing
-at-first-crossing = first-crossing
+pub first-crossing : FirstCrossing
+first-crossing = met-at-first

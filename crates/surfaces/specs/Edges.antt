@@ -1,6 +1,6 @@
--- SCOPE's edges (E1 to E7), both sides of each, a case for each port that looks right (W1 to W4), and the formulas
--- where each of their terms counts: one list, which one theorem covers (P4). A row has a rule's answer and the one
--- worked out by hand, each as a number of the table, the passes where there are any, and the bit patterns of all
+-- SCOPE's edges (E1 to E8, E11), both sides of each, a case for each port that looks right (W1 to W4, W6), and the
+-- formulas where each of their terms counts: one list, which one theorem covers (P4). A row has a rule's answer and the
+-- one worked out by hand, each as a number of the table, the passes where there are any, and the bit patterns of all
 -- values. Assumes nothing.
 use Prim.Native.Nat.{ℕ, _+_, _-_, _*_, _^_}
 use mathlib.Core.Path.{_≡_, refl}

@@ -1,6 +1,6 @@
--- Which crossing it is (SCOPE S12): a conic that is not a plane is met at the first, the least candidate that meets the
--- sheet rule. A candidate is told by the quadratic's coefficients and the limits alone, with no order and no search, and
--- the sheet rule by the sag. Definitions only.
+-- Which crossing it is (SCOPE S10): a conic that is not a plane is met at the first, the least candidate that meets the
+-- sheet rule. Candidates are told by the quadratic's coefficients and the limits alone, with no order and no search, and
+-- the sheet rule by the sag. docs/CROSSINGS.md has it in words. Definitions only.
 use mathlib.Core.Path.{_≡_}
 use mathlib.Core.Logic.{_≢_, _↔_}
 use mathlib.Core.Bool.{true, false, _&&_}
@@ -20,8 +20,8 @@ pub data RootOf (e : Quadratic) : Float → Type 0 where
   c-over-q : RootOf e (e .c /₆₄ qOf e)
   q-over-a : (1e-30 <₆₄ magnitude (e .a)) ≡ true → RootOf e (qOf e /₆₄ e .a)
 
--- a candidate: a root above -1e-7, raised to at least 0; there is none if the discriminant is below 0, or |q| not above
--- 1e-30
+-- a candidate: a root above -1e-7, raised to at least 0; there is none with a discriminant below 0, and none unless
+-- |q| > 1e-30
 pub record Candidate (e : Quadratic) (t : Float) : Type 0 where
   pub discriminant : (discriminantOf e <₆₄ 0f) ≡ false
   pub q-counts : (1e-30 <₆₄ magnitude (qOf e)) ≡ true
@@ -56,7 +56,7 @@ pub record First (ray : Ray) (s : ConicSurface) (t : Float) : Type 0 where
 abbrev pub Never : Ray → ConicSurface → Type 0
 Never ray s = (t : Float) → Crosses ray s t → ⊥
 
--- What an answer x says of the crossings, where `tOf` is the t of a hit.
+-- What an answer x says of the crossings. `tOf` is the t of a hit.
 pub record ByFirst {A : Type 0} (ray : Ray) (s : ConicSurface) (tOf : A → Float) (x : Told A) : Type 0 where
   -- 6 exactly if there is none
   pub missed : (x .line .number ≡ 6) ↔ Never ray s
@@ -76,20 +76,21 @@ meetAt ray s t =
     (after noHit (conicNormal p s) (λ n.
     gives (hitAt ray (landing t p) n)))
 
--- What `intersect_conic` answers, behind its checks, for a conic that is not a plane.
-pub record FirstCrossing (ray : Ray) (s : ConicSurface) : Type 0 where
+-- What `intersect_conic` answers.
+pub record MetAtFirst (ray : Ray) (s : ConicSurface) : Type 0 where
   pub by-first : ByFirst ray s (λ h. h .t) (conicMeetAnswer ray s)
-  -- there is one first crossing at most, and it decides
+  -- there is one first crossing at most, and it decides the whole answer
   pub only-one : (t u : Float) → First ray s t → First ray s u → t ≡ u
   pub at-first : (t : Float) → First ray s t → conicMeetAnswer ray s ≡ meetAt ray s t
-  -- and so does that there is none
+  -- and without one it is a miss
   pub at-none : Never ray s → conicMeetAnswer ray s ≡ refused noHit (plain 6)
-  -- every other answer than 6 is that of the first crossing
+  -- so every answer but 6 is that of the first crossing
   pub otherwise : conicMeetAnswer ray s .line .number ≢ 6
       → (t : Float) × First ray s t × (conicMeetAnswer ray s ≡ meetAt ray s t)
 
-abbrev pub AtFirstCrossing : Type 0
-AtFirstCrossing =
+-- behind its checks, for a conic that is not a plane
+abbrev pub FirstCrossing : Type 0
+FirstCrossing =
     (ray : Ray) (s : ConicSurface) →
     (rayFinite ray && conicFinite s) ≡ true → (s .semi <₆₄ 0f) ≡ false → (magnitude (s .curvature) <₆₄ 1e-15) ≡ false →
-    FirstCrossing ray s
+    MetAtFirst ray s

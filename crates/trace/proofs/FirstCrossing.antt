@@ -22,7 +22,7 @@ use Rattle.recipe.specs.declared.record.Optic.{Optic}
 use Rattle.trace.specs.declared.leg.Beam.{Beam}
 use Rattle.trace.specs.Leg.{noLeg, boundaryOf, legFinite, legAt, legOf}
 use Rattle.trace.specs.State.{stepOn}
-use Rattle.trace.specs.FirstCrossing.{StepsAtFirst}
+use Rattle.trace.specs.FirstCrossing.{FirstCrossing}
 
 one-pass : (s : Surface) (ray : Ray) (passes : ℕ) (t c k : Float) → s .kind ≡ Conic c k →
     passAnswer s ray passes t ≡ conicCrossing ray (conicOf s c k)
@@ -39,9 +39,9 @@ module _ (o : Optic) (b : Beam) where
       each later (1 ∷ 2 ∷ 4 ∷ 5 ∷ 8 ∷ []) (turned l .line .number) refl
       (demand-1 .turn (o .surface) (b .ray .direction) (l .point) (boundaryOf o (b .index)))
 
-pub steps-at-first : StepsAtFirst
+pub first-crossing : FirstCrossing
 unfolding stepOn legOf
-steps-at-first i count h c k e curved =
+first-crossing i count h c k e curved =
     let o = i .optic in
     let b = h .state .beam in
     let one = one-pass (o .surface) (b .ray) (h .state .passes) (h .state .t) c k e in

@@ -1,4 +1,4 @@
--- Which crossing a step takes (SCOPE S12): at a conic that is not a plane 6 and 7 are told by the first crossing, and a
+-- Which crossing a step takes (SCOPE S10): at a conic that is not a plane 6 and 7 are told by the first crossing, and a
 -- hit has its t. Refraction's own refusals stand between the normal's and 9. Definitions only.
 use Prim.Native.Nat.{ℕ, _+_}
 use mathlib.Core.Path.{_≡_}
@@ -24,8 +24,8 @@ pub record StepAtFirst (i : Item) (count : ℕ) (h : Held) (s : ConicSurface) (x
   -- and the leg is told by the crossings of the beam
   pub by-first : ByFirst (h .state .beam .ray) s (λ g. g .t) (legOf (h .state .number) (i .optic) (h .state .beam) x)
 
-abbrev pub StepsAtFirst : Type 0
-StepsAtFirst =
+abbrev pub FirstCrossing : Type 0
+FirstCrossing =
     (i : Item) (count : ℕ) (h : Held) (c k : Float) →
     i .optic .surface .kind ≡ Conic c k → (magnitude c <₆₄ 1e-15) ≡ false →
     StepAtFirst i count h (conicOf (i .optic .surface) c k)

@@ -291,7 +291,8 @@ module _ {A : Type 0} (ray : Ray) (s : ConicSurface) (blank : A) (tOf : A → Fl
         }
 
 -- a landing, what follows from it, then 9: so answers an intersection, and so does a step of a trace
-abbrev pub fromLanding : {A B : Type 0} → A → (A → Bool) → (Landing → Told B) → (Landing → B → A) → Told Landing → Told A
+abbrev pub fromLanding : {A B : Type 0} → A → (A → Bool) → (Landing → Told B) → (Landing → B → A) → Told Landing →
+    Told A
 fromLanding blank fine next make x =
     checked9 blank fine (after blank x (λ l. after blank (next l) (λ v. gives (make l v))))
 
@@ -301,7 +302,8 @@ module _ {A B : Type 0} (ray : Ray) (s : ConicSurface) (blank : A) (fine : A →
   abbrev tells : Told Landing → Type 0
   tells x = ByFirst ray s tOf (fromLanding blank fine next make x)
 
-  told-within : (t : Float) → First ray s t → (s .semi <₆₄ rAt ray t) ≡ false → tells (gives (landing t (pointAt ray t)))
+  told-within : (t : Float) → First ray s t → (s .semi <₆₄ rAt ray t) ≡ false →
+      tells (gives (landing t (pointAt ray t)))
   unfolding oneOf
   told-within t f h = by (done (next l)) refl
     where

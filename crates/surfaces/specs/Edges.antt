@@ -22,8 +22,8 @@ use Rattle.surfaces.specs.Snell.{refractAnswer}
 use Rattle.surfaces.specs.Conic.{conicSurface, curvatureOf, fromRadiusAnswer, fromCurvatureAnswer, conicSag}
 use Rattle.surfaces.specs.Conic.{conicSagAnswer, gradientNormal, conicNormal, conicNormalAnswer, conicFinite}
 use Rattle.surfaces.specs.Conic.{landedWithin, planeCrossing, nearSag, firstOn, kept, firstRoot, secondRoot}
-use Rattle.surfaces.specs.Conic.{ascending, quadraticOf, qOf, signOf, curvedCrossing, conicCrossing, normalAt, hitAt}
-use Rattle.surfaces.specs.Conic.{conicMeet, conicMeetAnswer}
+use Rattle.surfaces.specs.Conic.{ascending, quadraticOf, qOf, signOf, curvedCrossing, conicCrossing, normalAt}
+use Rattle.surfaces.specs.Conic.{hitAt, conicMeet, conicMeetAnswer}
 use Rattle.surfaces.specs.Sags.{edgeRoot}
 use Rattle.surfaces.specs.Newton.{arrivedAt, movedBy, passAt, vertexPlane, passesFrom, newtonEnd, passStart}
 use Rattle.surfaces.specs.Newton.{nextPass, limitedPass}
@@ -293,8 +293,8 @@ cases =
     (end (surfaceEnd (flat (whole 10)) (skimming (1 over 2 ^ 50))) ⇒ end (ended (noCrossing 6) 1)) ∷
     (end (surfaceEnd (flat (whole 10)) (skimming (1 over 2 ^ 49))) ⇒ end (ended (gives (landing 1f (vec 1f 0f 0f))) 1))
     ∷
-    -- which crossing: of a sphere the nearer from outside, t 2 and not 18; from inside the one on the way back, and on the
-    -- way on none, since the far half is not the sheet; on a hyperboloid the sheet through the vertex, t 5 and not 3
+    -- which crossing: of a sphere the nearer from outside, t 2 and not 18; from inside the one on the way back, and on
+    -- the way on none, since the far half is not the sheet; of a hyperboloid the vertex sheet's, t 5 and not 3
     (meet (conicMeetAnswer (on-axis (neg 2f)) ball) ⇒ meet (hit 2f (height 0f))) ∷
     (meet (conicMeetAnswer (ray (height 2f) backwards) ball) ⇒ meet (hit-from-behind 2f (height 0f))) ∷
     (meet (conicMeetAnswer (on-axis 2f) ball) ⇒ meet (refused noHit (plain 6))) ∷
@@ -303,7 +303,8 @@ cases =
     -- the first is beyond the semi-diameter, at r 4: 7, though the second is within, at r 1
     (candidates across (dish 2f) ⇒ bits (1f ∷ (9 over 4) ∷ [])) ∷
     (meet (conicMeetAnswer across (dish 2f)) ⇒ meet (refused noHit (vignetted 4f 2f))) ∷
-    (crossing (firstOn across (dish 2f) (9 over 4 ∷ [])) ⇒ crossing (gives (landing (9 over 4) (vec 1f 0f (1 over 4))))) ∷
+    (crossing (firstOn across (dish 2f) (9 over 4 ∷ []))
+    ⇒ crossing (gives (landing (9 over 4) (vec 1f 0f (1 over 4))))) ∷
     -- the normal refuses at the first: 5, though there is one at the second
     (candidates along-the-rim unit-ball ⇒ 0x3FEF_FFFE_B8B7_5845 ∷ 0x3FF0_0000_9008_B959 ∷ []) ∷
     (meet (conicMeetAnswer along-the-rim unit-ball) ⇒ meet (refused noHit (plain 5))) ∷

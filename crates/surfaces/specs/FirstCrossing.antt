@@ -1,6 +1,6 @@
 -- Which crossing it is (SCOPE S10): a conic that is not a plane is met at the first, the least candidate that meets
--- the sheet rule. Candidates are told by the quadratic's coefficients and the limits alone, without order or search, and
--- the sheet rule by the sag. docs/CROSSINGS.md has it in words. Definitions only.
+-- the sheet rule. Candidates are told by the quadratic's coefficients and the limits alone, without order or search,
+-- and the sheet rule by the sag. docs/CROSSINGS.md has it in words. Definitions only.
 use mathlib.Core.Path.{_≡_}
 use mathlib.Core.Logic.{_≢_, _↔_}
 use mathlib.Core.Bool.{true, false, _&&_}

@@ -81,6 +81,7 @@ typedef struct pilingrue_verdict {
 /* The record of a surface that refused the beam has status and steps, for a 7 also these two, and +0.0 in all else. */
 #define PILINGRUE_RECORD_R 1         /* distance from the axis at which the beam met the surface; may be infinite */
 #define PILINGRUE_RECORD_LIMIT 2     /* the semi-diameter */
+/* A beam may cross a conic twice: a hit and a 7 are of the first crossing, and a 6 says that there is none. */
 
 /* The state of a trace is two arrays. Keep them from call to call and do not change them. Other contents are answered
    too: by 12, or by the trace that they tell, which a later call may still refuse with 12.

@@ -10,13 +10,16 @@ use lib.Ieee.Fits.{div-fits}
 use Rattle.numbers.specs.Arithmetic.{_/₆₄_, _<₆₄_, if_then_else_, oneOf, 0f, 1e-7, 1e-15, 1e-30}
 use Rattle.numbers.specs.Basic.{magnitude, larger}
 use Rattle.numbers.proofs.Choice.{either, by-test, both}
+use Rattle.numbers.proofs.Lists.{each}
 use Rattle.numbers.proofs.Order.{Unsigned, not-itself, one-way, level, raised, raised-fits}
-use Rattle.surfaces.proofs.Demand1.{conic-normal}
+use Rattle.surfaces.proofs.Demand1.{conic-normal, demand-1}
 use Rattle.surfaces.specs.Types.{pointAt, rayFinite, landing, noHit, hitFinite}
 use Rattle.surfaces.specs.Refusal.{Told, plain, vignetted, gives, refused, done, after, checked9, noCrossing}
 use Rattle.surfaces.specs.Conic.{Quadratic, quadraticOf, discriminantOf, qOf, landedWithin, nearSag, onSheet}
 use Rattle.surfaces.specs.Conic.{firstOn, kept, firstRoot, secondRoot, ascending, curvedCrossing, conicCrossing}
 use Rattle.surfaces.specs.Conic.{conicNormal, conicFinite, normalAt, hitAt, conicMeet, conicMeetAnswer}
+use Rattle.surfaces.specs.Surface.{turnAnswer}
+use Rattle.surfaces.specs.Demand1.{Only}
 use Rattle.surfaces.specs.FirstCrossing.{RootOf, c-over-q, q-over-a, Candidate, rAt, OnSheet, Crosses, First}
 use Rattle.surfaces.specs.FirstCrossing.{Never, ByFirst, meetAt, MetAtFirst, FirstCrossing}
 use Rattle.surfaces.specs.declared.types.Vec3.{Vec3}
@@ -24,6 +27,8 @@ use Rattle.surfaces.specs.declared.types.Ray.{Ray}
 use Rattle.surfaces.specs.declared.types.Landing.{Landing}
 use Rattle.surfaces.specs.declared.types.HitRecord.{HitRecord}
 use Rattle.surfaces.specs.declared.conic.ConicSurface.{ConicSurface}
+use Rattle.surfaces.specs.declared.surface.Surface.{Surface}
+use Rattle.surfaces.specs.declared.surface.Boundary.{Boundary}
 
 -- ---- candidates: without a minus sign, and so in one order
 
@@ -250,8 +255,17 @@ module _ (ray : Ray) (s : ConicSurface) where
 -- ---- what is told by it
 
 -- a number that an answer from a landing on may have
-abbrev pub later : ℕ → Bool
+abbrev later : ℕ → Bool
 later n = not (oneOf (6 ∷ 7 ∷ []) n)
+
+normal-later : (p : Vec3) (s : ConicSurface) → later (conicNormal p s .line .number) ≡ true
+unfolding oneOf
+normal-later p s = conic-normal p s later (record { by-all = refl }) .told
+
+pub turn-later : (s : Surface) (i p : Vec3) (b : Boundary) → later (turnAnswer s i p b .line .number) ≡ true
+unfolding Only oneOf
+turn-later s i p b =
+    each later (1 ∷ 2 ∷ 4 ∷ 5 ∷ 8 ∷ []) (turnAnswer s i p b .line .number) refl (demand-1 .turn s i p b)
 
 not-later : {n : ℕ} → later n ≡ true → (m : ℕ) → later m ≡ false → n ≢ m
 not-later h m k e = true≢false (sym h ∙ ap later e ∙ k)
@@ -374,12 +388,11 @@ module _ (ray : Ray) (s : ConicSurface) (finite : (rayFinite ray && conicFinite 
   otherwise (least t c n) h = (t, record { crosses = c; none-smaller = n }, met-at t)
 
   told : ByFirst ray s (λ h. h .t) (conicMeetAnswer ray s)
-  unfolding oneOf hitAt
+  unfolding hitAt
   told =
       rw behind-the-checks
       (told-by-first ray s noHit hitFinite (λ h. h .t) normal (hitAt ray) (λ l n. refl)
-      (λ l. conic-normal (l .point) s later (record { by-all = refl }) .told)
-      curved)
+      (λ l. normal-later (l .point) s) curved)
 
   met-at-first : MetAtFirst ray s
   met-at-first = record {

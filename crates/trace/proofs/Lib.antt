@@ -12,7 +12,7 @@ mod Walks
 pub mod Starts
 pub mod Demand1
 pub mod Demand3
-pub mod FirstCrossing
+mod FirstCrossing
 mod Wholes
 pub mod Files
 pub mod Long

@@ -14,6 +14,11 @@ pub by-test : {A : Type 0} (P : A → Type 0) (b : Bool) (x y : A) → (b ≡ tr
 by-test P true x y p q = p refl
 by-test P false x y p q = q refl
 
+-- what is made of a test's answer is made of each
+pub through : {A B : Type 0} (f : A → B) (b : Bool) (x y : A) → f (if b then x else y) ≡ (if b then f x else f y)
+through f true x y = refl
+through f false x y = refl
+
 pub both : (a b : Bool) → (a && b) ≡ true → (a ≡ true) × (b ≡ true)
 both true b h = (refl, h)
 both false b h = absurd (false≢true h)

@@ -4,61 +4,51 @@ use Prim.Native.Nat.{ℕ, _+_, _-_, _*_, _/_, _^_}
 use native.Mathlib.Nat.{le-refl, le-antisymm, le-of-lt}
 use native.Mathlib.Omega.{arith}
 use mathlib.Core.Bool.{true, false, true≢false, false≢true}
-use borrow.Author.Tests.{ltb-true, ltb-false, le-ltb}
-use lib.IntN.{ℤ}
 use lib.Dec.{T}
-use lib.Ieee.{Float, nan, inf, fin, binary64, up, down, size, fits, ofBits, toBits, lt, isNan}
-use lib.Ieee.Fits.{down-pos}
+use lib.Ieee.{Float, nan, inf, fin, binary64, size, fits, ofBits, toBits, lt, isNan}
+use lib.Ieee.Positive.{num, den, den-pos}
 use lib.Ieee.Nearest.{div-same}
 use lib.Ieee.Bits.{ofBits-toBits}
 use Rattle.numbers.specs.Arithmetic.{decimal, _<₆₄_, 0f}
 use Rattle.numbers.specs.Basic.{larger, negative}
-use Rattle.numbers.proofs.Plain.{plain}
+use Rattle.numbers.proofs.Plain.{Plain, plain, below, at-most, not-below}
 use Rattle.numbers.proofs.Signs.{Positive, infinity, plus, exceeding}
+use Rattle.numbers.proofs.Finite.{top}
 use Rattle.numbers.proofs.Choice.{either, by-test}
 
 pub data Unsigned : Float → Type 0 where
   infinite : Unsigned (inf false)
-  number : (m : ℕ) (e : ℤ) → Unsigned (fin false m e)
+  finite : {x : Float} → Plain x → Unsigned x
 
 pub not-itself : {x : Float} → Unsigned x → lt x x ≡ false
-unfolding lt
-not-itself infinite = refl
-not-itself (number m e) = let a = m * up e * down e in le-ltb a a (le-refl a)
+not-itself infinite = top (inf false)
+not-itself (finite p) = not-below p p (le-refl _)
 
 pub one-way : {x y : Float} → Unsigned x → Unsigned y → lt x y ≡ true → lt y x ≡ false
-unfolding lt
-one-way infinite infinite h = refl
-one-way infinite (number n d) h = absurd (false≢true h)
-one-way (number m e) infinite h = refl
-one-way (number m e) (number n d) h =
-    let a = m * up e * down d in
-    let b = n * up d * down e in
-    le-ltb b a (le-of-lt (ltb-true a b h))
+one-way {y = y} infinite v h = absurd (false≢true (sym (top y) ∙ h))
+one-way {x} (finite p) infinite h = top x
+one-way (finite p) (finite q) h = not-below q p (le-of-lt (below p q h))
 
 scaled : (a b c d p : ℕ) → a * d ≡ b * c → a * p * d ≡ b * p * c
 scaled a b c d p h = omega (arith, ap (λ (k : ℕ). k * p) h)
 
-same-pattern : (m n : ℕ) (e d : ℤ) → m * up e * down d ≡ n * up d * down e →
-    toBits binary64 (fin false m e) ≡ toBits binary64 (fin false n d)
+same-pattern : {x y : Float} → Plain x → Plain y → num x * den y ≡ num y * den x → toBits binary64 x ≡ toBits binary64 y
 unfolding toBits
-same-pattern m n e d h =
+same-pattern {x} {y} (plain m e) (plain n d) h =
     ap (λ (k : ℕ). 0 + (size k - 53) * 2 ^ 52 + k / 2 ^ (size k - 53))
-    (div-same (m * up e * 2 ^ 1074) (down e) (n * up d * 2 ^ 1074) (down d) (down-pos e) (down-pos d)
-    (scaled (m * up e) (n * up d) (down e) (down d) (2 ^ 1074) h))
+    (div-same (num x * 2 ^ 1074) (den x) (num y * 2 ^ 1074) (den y) (den-pos x) (den-pos y)
+    (scaled (num x) (num y) (den x) (den y) (2 ^ 1074) h))
 
 pub level : {x y : Float} → T (fits binary64 x) → T (fits binary64 y) → Unsigned x → Unsigned y →
     lt x y ≡ false → lt y x ≡ false → x ≡ y
 unfolding lt
 level f g infinite infinite h k = refl
-level f g infinite (number n d) h k = absurd (true≢false k)
-level f g (number m e) infinite h k = absurd (true≢false h)
-level f g (number m e) (number n d) h k =
-    let a = m * up e * down d in
-    let b = n * up d * down e in
-    sym (ofBits-toBits binary64 (fin false m e) f)
-    ∙ ap (ofBits binary64) (same-pattern m n e d (le-antisymm (ltb-false b a k) (ltb-false a b h)))
-    ∙ ofBits-toBits binary64 (fin false n d) g
+level f g infinite (finite (plain n d)) h k = absurd (true≢false k)
+level f g (finite (plain m e)) infinite h k = absurd (true≢false h)
+level {x} {y} f g (finite p) (finite q) h k =
+    sym (ofBits-toBits binary64 x f)
+    ∙ ap (ofBits binary64) (same-pattern p q (le-antisymm (at-most q p k) (at-most p q h)))
+    ∙ ofBits-toBits binary64 y g
 
 -- ---- what is raised to at least 0
 
@@ -68,15 +58,15 @@ not-negative nan h k = absurd (true≢false h)
 not-negative (inf true) h k = absurd (true≢false k)
 not-negative (inf false) h k = infinite
 not-negative (fin true m e) h k = absurd (true≢false k)
-not-negative (fin false m e) h k = number m e
+not-negative (fin false m e) h k = finite (plain m e)
 
 of-positive : {x : Float} → Positive x → Unsigned x
 of-positive infinity = infinite
-of-positive (plus m e) = number _ e
+of-positive (plus m e) = finite (plain _ e)
 
 zero : Unsigned 0f
 unfolding decimal
-zero = number _ _
+zero = finite (plain _ _)
 
 pub raised : (x : Float) → Unsigned (larger x 0f)
 unfolding larger isNan decimal

@@ -9,7 +9,7 @@ use lib.Ieee.{Float, binary64, fits, neg}
 use lib.Ieee.Fits.{div-fits}
 use Rattle.numbers.specs.Arithmetic.{_/₆₄_, _<₆₄_, if_then_else_, oneOf, 0f, 1e-7, 1e-15, 1e-30}
 use Rattle.numbers.specs.Basic.{magnitude, larger}
-use Rattle.numbers.proofs.Choice.{either, by-test, both}
+use Rattle.numbers.proofs.Choice.{either, by-test, through, both}
 use Rattle.numbers.proofs.Lists.{each}
 use Rattle.numbers.proofs.Order.{Unsigned, not-itself, one-way, level, raised, raised-fits}
 use Rattle.surfaces.proofs.Demand1.{conic-normal, demand-1}
@@ -166,28 +166,21 @@ module _ (e : Quadratic) where
       by c-over-q h = first-in c/q q/a has-c/q has-q/a (rw (c .q-counts, h))
       by (q-over-a a) h = second-in c/q q/a has-c/q has-q/a (rw (a, c .q-counts, h))
 
-  of-list : (discriminantOf e <₆₄ 0f) ≡ false → (t : Float) → Has candidates t → Candidate e t
-  of-list d t h =
-      only-these c/q q/a (Candidate e) t has-c/q has-q/a
-      (λ f. let (counts, above) = both _ _ f in
-      record {
-        discriminant = d;
-        q-counts = counts;
-        raw = e .c /₆₄ q;
-        root-of = c-over-q;
-        above = above;
-        raised = refl;
-      })
-      (λ f. let (both-count, above) = both _ _ f in let (a, counts) = both _ _ both-count in
-      record {
-        discriminant = d;
-        q-counts = counts;
-        raw = q /₆₄ e .a;
-        root-of = q-over-a a;
-        above = above;
-        raised = refl;
-      })
-      (rw paired at h)
+  module _ (d : (discriminantOf e <₆₄ 0f) ≡ false) where
+    candidate : {t : Float} → RootOf e t → (1e-30 <₆₄ magnitude q) ≡ true → (neg 1e-7 <₆₄ t) ≡ true →
+        Candidate e (larger t 0f)
+    candidate {t} r counts above =
+        record { discriminant = d; q-counts = counts; raw = t; root-of = r; above = above; raised = refl }
+
+    of-list : (t : Float) → Has candidates t → Candidate e t
+    of-list t h =
+        only-these c/q q/a (Candidate e) t has-c/q has-q/a
+        (λ f. let (counts, above) = both _ _ f in candidate c-over-q counts above)
+        (λ f.
+        let (count, above) = both _ _ f in
+        let (a, counts) = both _ _ count in
+        candidate (q-over-a a) counts above)
+        (rw paired at h)
 
 -- ---- the first of a list
 
@@ -201,10 +194,10 @@ same-least : {A : Type 0} {none : A} {at : Float → A} {P Q : Float → Type 0}
 same-least f g (nothing n) = nothing (λ u c. n u (g u c))
 same-least f g (least t p n) = least t (f t p) (λ u c. n u (g u c))
 
-least-told : {A B : Type 0} {none : A} {at : Float → A} {P : Float → Type 0} {x : A} (f : A → B) → Least none at P x →
+least-through : {A B : Type 0} {none : A} {at : Float → A} {P : Float → Type 0} {x : A} (f : A → B) → Least none at P x →
     Least (f none) (λ t. f (at t)) P (f x)
-least-told f (nothing n) = nothing n
-least-told f (least t p n) = least t p n
+least-through f (nothing n) = nothing n
+least-through f (least t p n) = least t p n
 
 module _ (ray : Ray) (s : ConicSurface) where
   -- what is told at t, up to the normal
@@ -319,38 +312,29 @@ module _ {A B : Type 0} (ray : Ray) (s : ConicSurface) (blank : A) (fine : A →
   told-within : (t : Float) → First ray s t → (s .semi <₆₄ rAt ray t) ≡ false →
       tells (gives (landing t (pointAt ray t)))
   unfolding oneOf
-  told-within t f h = by (done (next l)) refl
-    where
-      l : Landing
-      l = landing t (pointAt ray t)
+  told-within t f h =
+      let l = landing t (pointAt ray t) in
+      let w = next l in
+      let g = make l (w .value) in
+      let on-first = within ray s blank tOf t f h in
+      by-test (λ y. ByFirst ray s tOf (checked9 blank fine y)) (done w) (gives g) (refused blank (w .line))
+      (λ e.
+      either (ByFirst ray s tOf) (not (fine g)) _ _
+      (on-first (refused blank (plain 9)) refl (λ k. absurd (false≢true k)))
+      (on-first (gives g) refl (λ k. at l (w .value))))
+      (λ e. rw e (on-first (refused blank (w .line)) (on l) (λ k. absurd (false≢true (sym e ∙ k)))))
 
-      w : Told B
-      w = next l
-
-      by : (d : Bool) → done w ≡ d →
-          ByFirst ray s tOf (checked9 blank fine (if d then gives (make l (w .value)) else refused blank (w .line)))
-      by true e =
-          either (ByFirst ray s tOf) (not (fine (make l (w .value)))) _ _
-          (within ray s blank tOf t f h (refused blank (plain 9)) refl (λ k. absurd (false≢true k)))
-          (within ray s blank tOf t f h (gives (make l (w .value))) refl (λ k. at l (w .value)))
-      by false e =
-          rw e (within ray s blank tOf t f h (refused blank (w .line)) (on l) (λ k. absurd (false≢true (sym e ∙ k))))
-
-  told-least : {x : Told Landing} → Least (noCrossing 6) (landsAt ray s) (Crosses ray s) x → tells x
+  by-least : {x : Told Landing} → Least (noCrossing 6) (landsAt ray s) (Crosses ray s) x → tells x
   unfolding landedWithin
-  told-least (nothing n) = without ray s blank tOf n
-  told-least (least t c n) =
+  by-least (nothing n) = without ray s blank tOf n
+  by-least (least t c n) =
       let f : First ray s t = record { crosses = c; none-smaller = n } in
       by-test tells (s .semi <₆₄ rAt ray t) _ _ (beyond ray s blank tOf t f) (told-within t f)
 
   pub told-by-first : (magnitude (s .curvature) <₆₄ 1e-15) ≡ false → tells (conicCrossing ray s)
-  told-by-first c = told-least (crossed ray s c)
+  told-by-first c = by-least (crossed ray s c)
 
 -- ---- what the intersection answers
-
-through : {A B : Type 0} (f : A → B) (b : Bool) (x y : A) → f (if b then x else y) ≡ (if b then f x else f y)
-through f true x y = refl
-through f false x y = refl
 
 module _ (ray : Ray) (s : ConicSurface) (finite : (rayFinite ray && conicFinite s) ≡ true)
     (semi : (s .semi <₆₄ 0f) ≡ false) (curved : (magnitude (s .curvature) <₆₄ 1e-15) ≡ false) where
@@ -372,7 +356,7 @@ module _ (ray : Ray) (s : ConicSurface) (finite : (rayFinite ray && conicFinite 
   Decided x = Least (refused noHit (plain 6)) (λ t. met (landsAt ray s t)) (Crosses ray s) x
 
   decided : Decided (conicMeetAnswer ray s)
-  decided = rw behind-the-checks (least-told met (crossed ray s curved))
+  decided = rw behind-the-checks (least-through met (crossed ray s curved))
 
   at-first : {x : Told HitRecord} → Decided x → (t : Float) → First ray s t → x ≡ meetAt ray s t
   at-first (nothing n) t f = absurd (n t (f .crosses))

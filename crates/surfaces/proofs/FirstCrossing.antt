@@ -194,8 +194,8 @@ same-least : {A : Type 0} {none : A} {at : Float → A} {P Q : Float → Type 0}
 same-least f g (nothing n) = nothing (λ u c. n u (g u c))
 same-least f g (least t p n) = least t (f t p) (λ u c. n u (g u c))
 
-least-through : {A B : Type 0} {none : A} {at : Float → A} {P : Float → Type 0} {x : A} (f : A → B) → Least none at P x →
-    Least (f none) (λ t. f (at t)) P (f x)
+least-through : {A B : Type 0} {none : A} {at : Float → A} {P : Float → Type 0} {x : A} (f : A → B) →
+    Least none at P x → Least (f none) (λ t. f (at t)) P (f x)
 least-through f (nothing n) = nothing n
 least-through f (least t p n) = least t p n
 

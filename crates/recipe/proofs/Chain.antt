@@ -3,7 +3,7 @@ use Prim.Native.Nat.{ℕ, zero, suc, _≤_, _<_}
 use native.Mathlib.Omega.{arith}
 use native.Mathlib.Nat.{not-suc-le-zero}
 use mathlib.Core.Path.{_≡_, refl, sym}
-use mathlib.Core.Bool.{true, false}
+use mathlib.Core.Bool.{Bool, true, false}
 use mathlib.Core.List.{List, [], _∷_}
 use lib.ListN.{length}
 use lib.Ieee.Scale.{finite}
@@ -12,19 +12,29 @@ use Rattle.recipe.specs.declared.record.Optic.{Optic}
 use Rattle.recipe.specs.Record.{good, recordAt}
 use Rattle.recipe.specs.Scan.{Item, items, scan, itemAt, placeOf}
 use Rattle.recipe.proofs.Records.{good-inside, good-index}
-use Rattle.recipe.proofs.Scans.{Scanned, over, passes, scanned}
+use Rattle.recipe.proofs.Scans.{Scanned, over, passes, scanned, scan-end, scan-record}
 
 pub data Chain (b : List ℕ) : ℕ → List Item → Type 0 where
   stop : {at : ℕ} → at ≡ length b → Chain b at []
   link : {at next : ℕ} {o : Optic} {l : List Item} → recordAt b at ≡ good o next → Chain b next l
       → Chain b at (record { at = at; next = next; optic = o } ∷ l)
 
-chained : (b : List ℕ) {left at : ℕ} {l : List Item} → at ≤ length b → Scanned b left at (items l) → Chain b at l
+chained : (b : List ℕ) {left at : ℕ} {l : List Item} → at ≤ length b → Scanned b true left at (items l) → Chain b at l
 chained b {at = at} h (over k) = stop {at = at} (omega arith)
 chained b h (passes k e s) = link e (chained b (good-inside b _ e .1) s)
 
-pub scan-chain : (b : List ℕ) (left at : ℕ) (l : List Item) → at ≤ length b → scan b left at ≡ items l → Chain b at l
-scan-chain b left at l h e = chained b h (rw e at (scanned b left at))
+pub scan-chain : (b : List ℕ) (left at : ℕ) (l : List Item) → at ≤ length b → scan true b left at ≡ items l
+    → Chain b at l
+scan-chain b left at l h e = chained b h (rw e at (scanned true b left at))
+
+-- and so they are scanned, whether or not all are asked for
+pub chain-scan : (all : Bool) (b : List ℕ) (left : ℕ) {at : ℕ} {l : List Item} → Chain b at l → length l ≤ left
+    → scan all b left at ≡ items l
+chain-scan all b left {at} (stop e) h = scan-end all b left at (omega arith)
+chain-scan all b zero (link e c) h = absurd (not-suc-le-zero h)
+chain-scan all b (suc left) {at} (link e c) h =
+    let i = good-inside b at e in
+    rw (scan-record all b left at (omega arith), e, chain-scan all b left c (omega arith))
 
 pub place-end : (l : List Item) (end : ℕ) → placeOf l end (length l) ≡ end
 unfolding placeOf

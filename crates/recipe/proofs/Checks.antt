@@ -3,6 +3,7 @@ use Prim.Native.Nat.{ℕ, suc, _+_, _-_, _≤_, _<_}
 use native.Mathlib.Omega.{arith}
 use mathlib.Core.Path.{_≡_, refl, sym, _∙_, ap}
 use mathlib.Core.Logic.{_≢_, _⊎_, ⊎-elim}
+use mathlib.Core.Bool.{Bool, true, false}
 use mathlib.Core.List.{List}
 use lib.ListN.{length}
 use borrow.Author.Tests.{eq-eqb, ne-eqb}
@@ -62,42 +63,47 @@ says-before w c i (items l) = refl
 more : (most n : ℕ) → n < most → most - n ≡ suc (most - (n + 1))
 more most n h = omega arith
 
-abbrev pub noted : ℕ → ℕ → ℕ → ℕ → Checked
-noted count limits found limit =
-    record { number = 1; place = 0; count = count; limits = limits; found = found; limit = limit }
+abbrev pub noted : ℕ → ℕ → ℕ → ℕ → ℕ → Checked
+noted count limits found limit end =
+    record { number = 1; place = 0; count = count; limits = limits; found = found; limit = limit; end = end }
 
 module _ (w n limits found limit here found' limit' : ℕ) (i : Item) (e : here ≡ limitOf (i .optic .surface .kind)) where
   note-wanted : (n ≡ w) × (found' ≡ i .at) × (limit' ≡ here)
-      → note w (noted n limits found limit) i ≡ noted (n + 1) (limits + here) found' limit'
+      → note w (noted n limits found limit (i .at)) i ≡ noted (n + 1) (limits + here) found' limit' (i .next)
   note-wanted t = rw (eq-eqb n w (t .0), t .1, t .2, e)
 
   note-other : (n ≢ w) × (found' ≡ found) × (limit' ≡ limit)
-      → note w (noted n limits found limit) i ≡ noted (n + 1) (limits + here) found' limit'
+      → note w (noted n limits found limit (i .at)) i ≡ noted (n + 1) (limits + here) found' limit' (i .next)
   note-other t = rw (ne-eqb n w (t .0), t .1, t .2, e)
 
 -- a turn of the loop: n records are behind it
-pub turn : (b : List ℕ) (w most n at limits found limit here found' limit' next : ℕ) (o : Checked)
+pub turn : (all : Bool) (b : List ℕ) (w most n at limits found limit here found' limit' next : ℕ) (o : Checked)
     → n < most → at < length b → Passed b at next here
     → ((n ≡ w) × (found' ≡ at) × (limit' ≡ here)) ⊎ ((n ≢ w) × (found' ≡ found) × (limit' ≡ limit))
-    → o ≡ says w (noted n limits found limit) (scan b (most - n) at)
-    → o ≡ says w (noted (n + 1) (limits + here) found' limit') (scan b (most - (n + 1)) next)
-turn b w most n at limits found limit here found' limit' next o h k p came inv =
+    → o ≡ says w (noted n limits found limit at) (scan all b (most - n) at)
+    → o ≡ says w (noted (n + 1) (limits + here) found' limit' next) (scan all b (most - (n + 1)) next)
+turn all b w most n at limits found limit here found' limit' next o h k p came inv =
     let i : Item = record { at = at; next = next; optic = p .optic } in
     let wanted = note-wanted w n limits found limit here found' limit' i (p .limit-is) in
     let other = note-other w n limits found limit here found' limit' i (p .limit-is) in
-    let rest = scan b (most - (n + 1)) next in
+    let rest = scan all b (most - (n + 1)) next in
     inv
-    ∙ rw (more most n h, scan-record b (most - (n + 1)) at k, p .reads, ← ⊎-elim wanted other came)
-    (says-before w (noted n limits found limit) i rest)
+    ∙ rw (more most n h, scan-record all b (most - (n + 1)) at k, p .reads, ← ⊎-elim wanted other came)
+    (says-before w (noted n limits found limit at) i rest)
 
 -- its ways out
-module _ (b : List ℕ) (w most n at : ℕ) (c o : Checked) (inv : o ≡ says w c (scan b (most - n) at)) where
-  pub out-full : most ≤ n → at < length b → failed 10 at ≡ o
-  out-full h k = let z : most - n ≡ 0 = omega arith in rw (inv, z, scan-full b at k)
+module _ (all : Bool) (b : List ℕ) (w most n at : ℕ) (c o : Checked)
+    (inv : o ≡ says w c (scan all b (most - n) at)) where
+  pub out-full : most ≤ n → at < length b → all ≡ true → failed 10 at ≡ o
+  out-full h k e = let z : most - n ≡ 0 = omega arith in rw (inv, e, z, scan-full b at k)
+
+  pub out-enough : most ≤ n → all ≡ false → c ≡ o
+  unfolding scan notes
+  out-enough h e = let z : most - n ≡ 0 = omega arith in rw (inv, e, z)
 
   pub out-bad : {k : ℕ} → n < most → at < length b → recordAt b at ≡ bad k → failed k at ≡ o
-  out-bad h k e = rw (inv, more most n h, scan-record b (most - (n + 1)) at k, e)
+  out-bad h k e = rw (inv, more most n h, scan-record all b (most - (n + 1)) at k, e)
 
   pub out-end : length b ≤ at → c ≡ o
   unfolding notes
-  out-end h = rw (inv, scan-end b (most - n) at h)
+  out-end h = rw (inv, scan-end all b (most - n) at h)

@@ -1,13 +1,14 @@
 -- A record is read within the longest recipe, so that all records are read from its first bytes. Assumes nothing.
 use Prim.Native.Nat.{ℕ, zero, suc, _+_, _*_, _/_, _%_, _≤_, _<_}
 use native.Mathlib.Omega.{arith}
-use mathlib.Core.Path.{_≡_, refl, sym}
+use mathlib.Core.Path.{_≡_, refl, sym, _∙_}
 use mathlib.Core.Bool.{Bool, true, false, _&&_, and-false}
 use mathlib.Core.List.{List}
 use lib.ListN.{length, take}
 use lib.Seq.{getD-take, length-take-le}
 use lib.Dec.{eqb, leb, lit≤}
 use borrow.Author.Tests.{eqb-true, leb-true, leb-false, le-leb, lt-leb}
+use Rattle.recipe.specs.declared.record.Optic.{Optic}
 use Rattle.recipe.specs.Endian.{u16At, u32At, u64At, numberAt, numbersAt}
 use Rattle.recipe.specs.Record.{Read, bad, good, lengthAt, kindAt, endAt, slotAt, lengthFits, formedAt, longest}
 use Rattle.recipe.specs.Record.{shapedAt, semiSlot, kindOf, oddCount, evenCount, coefficientsAt, opticAt}
@@ -15,7 +16,7 @@ use Rattle.recipe.specs.Record.{recordAt}
 use Rattle.recipe.specs.Scan.{onRead, scan}
 use Rattle.recipe.specs.Length.{RefusedAlike, TooLong}
 use Rattle.recipe.proofs.Shapes.{semi-least, semi-biconic, fits, shape}
-use Rattle.recipe.proofs.Records.{good-inside}
+use Rattle.recipe.proofs.Records.{good-inside, good-shape}
 use Rattle.recipe.proofs.Scans.{scan-full, scan-record}
 
 -- a record whose kind stands past the longest recipe has no shape: it fits no length, or ends past it too
@@ -66,74 +67,85 @@ module _ (b : List ℕ) (n : ℕ) where
           rw (early 2 (lit≤ tt), early 3 (lit≤ tt), early 4 (lit≤ tt), slot-take at 5 (omega arith))
       by false e = rw (early 2 (lit≤ tt), early 3 (lit≤ tt), early 4 (lit≤ tt), e)
 
-  module _ (at : ℕ) (h : longest < n) (k : n ≤ length b) where
-    shaped-take : shapedAt (take n b) at ≡ shapedAt b at
+  module _ (at : ℕ) (k : n ≤ length b) where
+    -- a record that ends within them
+    shaped-within : at + 4 ≤ n → endAt b at ≤ n → shapedAt (take n b) at ≡ shapedAt b at
     unfolding shapedAt formedAt
-    shaped-take = by (leb (at + 4) n) refl
-      where
-        read : at + 4 ≤ n → (t : Bool) → leb (endAt b at) longest ≡ t
-            → (leb (at + 4) n && leb (endAt b at) n && leb (kindAt b at / 256) 1
-            && lengthFits (kindAt b at % 256) (lengthAt b at) && t)
-            ≡ (leb (at + 4) (length b) && leb (endAt b at) (length b) && leb (kindAt b at / 256) 1
-            && lengthFits (kindAt b at % 256) (lengthAt b at) && t)
-        read l true e =
-            let m = leb-true (endAt b at) longest e in
-            rw (
-              le-leb (at + 4) n l,
-              le-leb (endAt b at) n (omega arith),
-              le-leb (at + 4) (length b) (omega arith),
-              le-leb (endAt b at) (length b) (omega arith),
-            )
-        read l false e = simp and-false
+    shaped-within l m =
+        rw (
+          u16-take at (omega arith),
+          u16-take (at + 2) (omega arith),
+          length-take-le n b k,
+          le-leb (at + 4) n l,
+          le-leb (endAt b at) n m,
+          le-leb (at + 4) (length b) (omega arith),
+          le-leb (endAt b at) (length b) (omega arith),
+        )
 
-        by : (t : Bool) → leb (at + 4) n ≡ t → shapedAt (take n b) at ≡ shapedAt b at
-        by true e =
-            let l = leb-true (at + 4) n e in
-            rw (u16-take at (omega arith), u16-take (at + 2) (omega arith), length-take-le n b k)
-            (read l (leb (endAt b at) longest) refl)
-        by false e =
-            let l = leb-false (at + 4) n e in
-            rw (length-take-le n b k, e) (sym (begins-late b at (omega arith)))
-
-    record-take : recordAt (take n b) at ≡ recordAt b at
+    record-within : shapedAt b at ≡ true → endAt b at ≤ n → recordAt (take n b) at ≡ recordAt b at
     unfolding recordAt opticAt coefficientsAt
-    record-take = by (shapedAt b at) refl
-      where
-        by : (t : Bool) → shapedAt b at ≡ t → recordAt (take n b) at ≡ recordAt b at
-        by false e = rw (shaped-take, e)
-        by true e =
-            let f = shape b at e refl refl in
-            let kind = kindAt b at % 256 in
-            let even = evenCount kind (lengthAt b at) in
-            rw (
-              shaped-take,
-              e,
-              u16-take at (omega arith),
-              u16-take (at + 2) (omega arith),
-              numbers-take (at + 4) (lengthAt b at / 8) (omega arith),
-              slot-take at (semiSlot kind) (omega arith),
-              slot-take at 1 (omega arith),
-              slot-take at 0 (omega arith),
-              kind-take at kind (omega arith),
-              numbers-take (at + 44) even (omega arith),
-              numbers-take (at + 44 + 8 * even) (oddCount kind) (omega arith),
-            )
+    record-within e m =
+        let f = shape b at e refl refl in
+        let kind = kindAt b at % 256 in
+        let even = evenCount kind (lengthAt b at) in
+        rw (
+          shaped-within (omega arith) m,
+          e,
+          u16-take at (omega arith),
+          u16-take (at + 2) (omega arith),
+          numbers-take (at + 4) (lengthAt b at / 8) (omega arith),
+          slot-take at (semiSlot kind) (omega arith),
+          slot-take at 1 (omega arith),
+          slot-take at 0 (omega arith),
+          kind-take at kind (omega arith),
+          numbers-take (at + 44) even (omega arith),
+          numbers-take (at + 44 + 8 * even) (oddCount kind) (omega arith),
+        )
+
+    pub good-take : {o : Optic} {next : ℕ} → recordAt b at ≡ good o next → next ≤ n
+        → recordAt (take n b) at ≡ good o next
+    good-take e m = let a = good-shape b at e in record-within (a .0) (omega (arith, a .1)) ∙ e
+
+    module _ (h : longest < n) where
+      shaped-take : shapedAt (take n b) at ≡ shapedAt b at
+      unfolding shapedAt
+      shaped-take = by (leb (at + 4) n) refl (leb (endAt b at) longest) refl
+        where
+          by : (t : Bool) → leb (at + 4) n ≡ t → (u : Bool) → leb (endAt b at) longest ≡ u
+              → shapedAt (take n b) at ≡ shapedAt b at
+          by true e true u =
+              let l = leb-true (endAt b at) longest u in
+              shaped-within (leb-true (at + 4) n e) (omega arith)
+          by true e false u =
+              let l = leb-true (at + 4) n e in
+              rw (u16-take at (omega arith), u) (simp and-false)
+          by false e t u =
+              let l = leb-false (at + 4) n e in
+              begins-late (take n b) at (omega arith) ∙ sym (begins-late b at (omega arith))
+
+      record-take : recordAt (take n b) at ≡ recordAt b at
+      unfolding recordAt
+      record-take = by (shapedAt b at) refl
+        where
+          by : (t : Bool) → shapedAt b at ≡ t → recordAt (take n b) at ≡ recordAt b at
+          by false e = rw (shaped-take, e)
+          by true e = let f = shape b at e refl refl in record-within e (omega arith)
 
 module _ (b : List ℕ) (most : ℕ) (long : longest < length b) where
   abbrev front : List ℕ
   front = take (longest + 1) b
 
   abbrev Alike : ℕ → ℕ → Type 0
-  Alike left at = RefusedAlike (scan b left at) (scan front left at) longest
+  Alike left at = RefusedAlike (scan true b left at) (scan true front left at) longest
 
   front-length : length front ≡ longest + 1
   front-length = length-take-le (longest + 1) b (omega arith)
 
   front-record : (left at : ℕ) → at ≤ longest
-      → scan front (suc left) at ≡ onRead (recordAt b at) at (scan front left)
+      → scan true front (suc left) at ≡ onRead (recordAt b at) at (scan true front left)
   front-record left at h =
       rw (
-        scan-record front left at (omega (arith, front-length)),
+        scan-record true front left at (omega (arith, front-length)),
         record-take b (longest + 1) at (omega arith) (omega arith),
       )
 
@@ -151,7 +163,7 @@ module _ (b : List ℕ) (most : ℕ) (long : longest < length b) where
       by (bad n) e go = record {
         number = n;
         place = at;
-        one = rw (scan-record b left at (omega arith), e);
+        one = rw (scan-record true b left at (omega arith), e);
         other = rw (front-record left at h, e);
         within = h;
       }
@@ -160,7 +172,7 @@ module _ (b : List ℕ) (most : ℕ) (long : longest < length b) where
           record {
             number = q .number;
             place = q .place;
-            one = rw (scan-record b left at (omega arith), e, q .one);
+            one = rw (scan-record true b left at (omega arith), e, q .one);
             other = rw (front-record left at h, e, q .other);
             within = q .within;
           }

@@ -9,4 +9,5 @@ pub mod Chain
 pub mod Notes
 mod Checks
 pub mod Length
+pub mod Cuts
 pub mod Sources

@@ -11,6 +11,7 @@ use borrow.Author.Tests.{eq-eqb, ne-eqb}
 use Rattle.surfaces.specs.Surface.{limitOf}
 use Rattle.recipe.specs.declared.scan.Checked.{Checked}
 use Rattle.recipe.specs.Scan.{Item, note, notes, itemAt, sumLimits}
+use Rattle.recipe.proofs.Cuts.{endFrom}
 
 -- number and place stay what they were
 pub notes-answer : (w : ℕ) (c : Checked) (l : List Item)
@@ -47,3 +48,9 @@ notes-found w c (i ∷ l) zero e h =
     let later = notes-kept w (note w c i) l (omega arith) in
     (later .0 ∙ rw here, later .1 ∙ rw here)
 notes-found w c (i ∷ l) (suc k) e h = notes-found w (note w c i) l k (omega arith) (omega arith)
+
+-- where the last of them ends
+pub notes-end : (w : ℕ) (c : Checked) (l : List Item) → notes w c l .end ≡ endFrom (c .end) l
+unfolding notes endFrom
+notes-end w c [] = refl
+notes-end w c (i ∷ l) = notes-end w (note w c i) l

@@ -65,6 +65,9 @@ module _ (b : List ℕ) (at : ℕ) where
       by true t true u false false w e = record { shaped = t; numbers = u; index = w; optic = cc; end = cc }
 
   module _ {o : Optic} {next : ℕ} (h : recordAt b at ≡ good o next) where
+    pub good-shape : (shapedAt b at ≡ true) × (next ≡ endAt b at)
+    good-shape = let a = accepted h in (a .shaped, a .end)
+
     pub good-inside : (at + 44 ≤ next) × (next ≤ length b) × (next ≤ longest)
     good-inside =
         let a = accepted h in

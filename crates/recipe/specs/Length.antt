@@ -1,6 +1,7 @@
 -- A recipe that is too long is refused, and its first bytes alone say why and where. Definitions only.
 use Prim.Native.Nat.{ℕ, _+_, _≤_, _<_}
 use mathlib.Core.Path.{_≡_}
+use mathlib.Core.Bool.{true}
 use mathlib.Core.List.{List}
 use lib.ListN.{length, take}
 use Rattle.recipe.specs.Record.{longest}
@@ -16,4 +17,4 @@ pub record RefusedAlike (x y : Scan) (last : ℕ) : Type 0 where
 
 abbrev pub TooLong : Type 0
 TooLong = (b : List ℕ) (most : ℕ) → longest < length b
-    → RefusedAlike (scan b most 0) (scan (take (longest + 1) b) most 0) longest
+    → RefusedAlike (scan true b most 0) (scan true (take (longest + 1) b) most 0) longest

@@ -1,5 +1,6 @@
 -- A whole recipe: the list of its surfaces, or its first refusal and where; what a check says of it. Definitions only.
 use Prim.Native.Nat.{ℕ, zero, suc, _+_}
+use mathlib.Core.Bool.{Bool, _&&_}
 use mathlib.Core.List.{List, [], _∷_}
 use lib.ListN.{length, getD}
 use lib.Dec.{eqb, ltb}
@@ -28,10 +29,10 @@ abbrev pub onRead : Read → ℕ → (ℕ → Scan) → Scan
 onRead (bad n) at rest = refused n at
 onRead (good o next) at rest = before (record { at = at; next = next; optic = o }) (rest next)
 
--- the records from a place on, of which at most so many may come
-unfoldable pub scan : List ℕ → ℕ → ℕ → Scan
-scan b zero at = if ltb at (length b) then refused 10 at else items []
-scan b (suc left) at = if ltb at (length b) then onRead (recordAt b at) at (scan b left) else items []
+-- the records from a place on, so many at most: where all are asked for, more are refused, and else not looked at
+unfoldable pub scan : Bool → List ℕ → ℕ → ℕ → Scan
+scan all b zero at = if all && ltb at (length b) then refused 10 at else items []
+scan all b (suc left) at = if ltb at (length b) then onRead (recordAt b at) at (scan all b left) else items []
 
 abbrev pub itemsIn : Scan → List Item
 itemsIn (refused n p) = []
@@ -54,9 +55,10 @@ unfoldable pub sumLimits : List Item → ℕ
 sumLimits [] = 0
 sumLimits (i ∷ l) = limitOf (i .optic .surface .kind) + sumLimits l
 
--- what a check says: how many surfaces, the sum of their limits, and of the wanted one its place and its limit
+-- what a check says: how many surfaces, the sum of their limits, of the wanted one its place and its limit, and where
+-- the last one ends
 abbrev pub failed : ℕ → ℕ → Checked
-failed n p = record { number = n; place = p; count = 0; limits = 0; found = 0; limit = 0 }
+failed n p = record { number = n; place = p; count = 0; limits = 0; found = 0; limit = 0; end = 0 }
 
 abbrev pub note : ℕ → Checked → Item → Checked
 note w c i =
@@ -68,6 +70,7 @@ note w c i =
       limits = c .limits + limit;
       found = if eqb (c .count) w then i .at else c .found;
       limit = if eqb (c .count) w then limit else c .limit;
+      end = i .next;
     }
 
 unfoldable pub notes : ℕ → Checked → List Item → Checked
@@ -75,11 +78,11 @@ notes w c [] = c
 notes w c (i ∷ l) = notes w (note w c i) l
 
 abbrev pub nothing : Checked
-nothing = record { number = 1; place = 0; count = 0; limits = 0; found = 0; limit = 0 }
+nothing = record { number = 1; place = 0; count = 0; limits = 0; found = 0; limit = 0; end = 0 }
 
 abbrev pub says : ℕ → Checked → Scan → Checked
 says w c (refused n p) = failed n p
 says w c (items l) = notes w c l
 
-unfoldable pub checkOf : List ℕ → ℕ → ℕ → Checked
-checkOf b most w = says w nothing (scan b most 0)
+unfoldable pub checkOf : List ℕ → ℕ → Bool → ℕ → Checked
+checkOf b most all w = says w nothing (scan all b most 0)

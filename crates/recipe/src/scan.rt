@@ -1,4 +1,4 @@
-// A recipe's records, checked from the first to the last.
+// A recipe's records, checked from the first on.
 ghost use mathlib.Core.Path.{_≡_};
 ghost use Rattle.recipe.specs.Scan.{checkOf, failed};
 ghost use Rattle.recipe.specs.Record.{negativeSemi, recordAt};
@@ -29,7 +29,7 @@ pub(crate) struct Seen {
     pub limit: u16,
 }
 
-// What a check of a whole recipe says.
+// What a check of a recipe says.
 pub struct Checked {
     // 1, or the refusal and its record's place
     pub number: u8,
@@ -40,6 +40,8 @@ pub struct Checked {
     // of the wanted surface, its place and its limit
     pub found: usize,
     pub limit: u16,
+    // where it stopped, behind the last surface
+    pub end: usize,
 }
 
 fn unseen(number: u8) -> Seen
@@ -96,12 +98,14 @@ fn failed(number: u8, place: usize) -> Checked
         limits: 0,
         found: 0,
         limit: 0,
+        end: 0,
     }
 }
 
-// The whole recipe, of at most so many records, and what it says of the wanted surface.
-pub fn check(s: &[u8], most: usize, wanted: usize) -> Checked
-    ensures { λ r. ⌜ r ≡ checkOf (now (s .entry)) most wanted ⌝ }
+// At most so many records, and what they say of the wanted surface. Where all are asked for, more are refused; else the
+// check stops before them.
+pub fn check(s: &[u8], most: usize, all: bool, wanted: usize) -> Checked
+    ensures { λ r. ⌜ r ≡ checkOf (now (s .entry)) most all wanted ⌝ }
 {
     let mut at = 0;
     let mut count = 0;
@@ -110,7 +114,10 @@ pub fn check(s: &[u8], most: usize, wanted: usize) -> Checked
     let mut limit = 0;
     while at < s.len() {
         if count >= most {
-            return failed(MALFORMED, at);
+            if all {
+                return failed(MALFORMED, at);
+            }
+            break;
         }
         let seen = look(s, at);
         if seen.number != ACCEPTED {
@@ -131,5 +138,6 @@ pub fn check(s: &[u8], most: usize, wanted: usize) -> Checked
         limits,
         found,
         limit,
+        end: at,
     }
 }

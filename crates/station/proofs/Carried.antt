@@ -109,7 +109,7 @@ module _ (c : List ℕ) (x z : List Float) (allowed : ℕ) (h : Beyond c) where
 refuses : (b c : List ℕ) (x z : List Float) (allowed : ℕ) → Beyond c
     → continued b c x z allowed ≡ left (unfit (recipeOf b) (length z)) c x z
 unfolding continued continueOf
-refuses b c x z allowed h = refuses-on c x z allowed h (recipeOf b) (scan-sound b mostRecords 0) (length b)
+refuses b c x z allowed h = refuses-on c x z allowed h (recipeOf b) (scan-sound true b mostRecords 0) (length b)
 
 pub carried : Carried
 carried = record { carries = carries; refuses = refuses }

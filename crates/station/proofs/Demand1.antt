@@ -52,6 +52,9 @@ demand-1-lent = record {
   start = λ b ray index z. answered _ _ refl (demand-1 .start b ray index z);
   whole = λ b ray index z. answered _ _ refl (demand-1 .whole b ray index z);
   resume = λ b c x z n. answered _ _ (verdict b c x z n) (demand-1 .resume b (stateIn c x) z n);
+  reach = λ b ray index k.
+      let a = demand-1 .reach b ray index k in
+      record { number = a .number; place = a .place; refused = a .refused };
   refused-start = λ b ray index z h. blanked z _ (demand-1 .refused-start b ray index z h);
   refused-whole = λ b ray index z h. blanked z _ (demand-1 .refused-whole b ray index z h);
   refused-resume = λ b c x z n h. unchanged b c x z n (λ e. h (number b c x z n ∙ e));

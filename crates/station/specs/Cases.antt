@@ -13,7 +13,7 @@ use Rattle.surfaces.specs.Types.{rayOf, dotOf, vectorLength, overOf, distance, 
 use Rattle.surfaces.specs.Types.{everyFinite}
 use Rattle.surfaces.specs.Snell.{turnedIf, negatedIf, bent, refracted}
 use Rattle.surfaces.specs.Conic.{landedWithin, planeCrossing, conicCrossing, conicNormal, gradientNormal, normalAt}
-use Rattle.surfaces.specs.Surface.{passAnswer, limitOf, surfaceNormal, onwardFrom, turnAnswer}
+use Rattle.surfaces.specs.Surface.{passAnswer, surfaceEnd, limitOf, surfaceNormal, onwardFrom, turnAnswer}
 use Rattle.surfaces.specs.Edges.{_over_, whole, bits, Case, _⇒_, agree}
 use Rattle.surfaces.specs.declared.types.Ray.{Ray}
 use Rattle.recipe.specs.Endian.{u16At, u32At, u64At, numberAt, numbersAt}
@@ -24,13 +24,19 @@ use Rattle.trace.specs.declared.state.State.{State}
 use Rattle.trace.specs.Leg.{boundaryOf, share, legFinite, legOf, beamAfter, hitRow, rowOf}
 use Rattle.trace.specs.State.{stateAfter, surfaceLeft, stepOn, move, advance, outcomeKnown, placeFits, passesFit}
 use Rattle.trace.specs.State.{beamGood, fitsOf}
-use Rattle.trace.specs.Run.{refusedAnswer, admission, startAt, startOf, continueOf}
+use Rattle.trace.specs.Unbroken.{unbroken}
+use Rattle.trace.specs.Run.{refusedAnswer, rayAdmission, admission, startAt, startOf, continueOf}
+use Rattle.trace.specs.Wanted.{reachOf}
 use Rattle.trace.specs.Example.{bytes, patterns, planeRecord}
 use Rattle.station.specs.Lent.{passesIn, outcomeIn, stateIn, countsOf, numbersOf, Left, told, continued}
+use Rattle.station.specs.Lent.{LeftRow, toldRow}
 
 -- what a call leaves, as numbers: the verdict, the counts, the state's numbers and the result buffer
 abbrev pub shown : Left → List ℕ
 shown w = w .verdict .number ∷ w .verdict .place ∷ w .counts ++ bits (w .numbers ++ w .buffer)
+
+abbrev pub shownRow : LeftRow → List ℕ
+shownRow w = w .verdict .number ∷ w .verdict .place ∷ bits (w .row)
 
 -- a state as its arrays hold it, each number another
 abbrev pub counts : List ℕ
@@ -91,7 +97,10 @@ cases =
     11 ∷ 0 ∷ 0 ∷ 0 ∷ 0 ∷ 0 ∷ 11 ∷ bits (replicate 21 0f)) ∷
     -- a refused continuation writes nothing, not even a count that it reads as the type's largest
     (shown (continued planeRecord (0 ∷ 0 ∷ 65536 ∷ 0 ∷ 0 ∷ []) begun (replicate 13 2f) 1) ⇒
-    12 ∷ 0 ∷ 0 ∷ 0 ∷ 65536 ∷ 0 ∷ 0 ∷ bits (begun ++ replicate 13 2f)) ∷ []
+    12 ∷ 0 ∷ 0 ∷ 0 ∷ 65536 ∷ 0 ∷ 0 ∷ bits (begun ++ replicate 13 2f)) ∷
+    -- one surface: its record, and blanks where it is refused
+    (shownRow (toldRow (reachOf planeRecord ray 1f 0)) ⇒ 1 ∷ 0 ∷ bits hitRecord) ∷
+    (shownRow (toldRow (reachOf (planeRecord ++ 0 ∷ []) ray 1f 1)) ⇒ 10 ∷ 44 ∷ bits (replicate 13 0f)) ∷ []
 
 pub each-case : agree cases ≡ true
 unfolding cases bits _over_ rayOf passesIn outcomeIn stateIn countsOf numbersOf continued bytes patterns planeRecord
@@ -101,5 +110,5 @@ unfolding cases bits _over_ rayOf passesIn outcomeIn stateIn countsOf numbersOf 
     onwardFrom turnAnswer u16At u32At u64At numberAt numbersAt slotAt lengthFits formedAt shapedAt semiSlot kindOf
     oddCount evenCount coefficientsAt opticAt recordAt scan notes boundaryOf share legFinite legOf beamAfter hitRow
     rowOf stateAfter surfaceLeft stepOn move advance outcomeKnown placeFits passesFit beamGood fitsOf refusedAnswer
-    admission startAt startOf continueOf
+    rayAdmission admission startAt startOf continueOf surfaceEnd unbroken reachOf
 each-case = refl

@@ -10,9 +10,11 @@ use lib.Ieee.{Float}
 use Rattle.numbers.specs.Arithmetic.{0f}
 use Rattle.numbers.specs.Arithmetic.{oneOf}
 use Rattle.surfaces.specs.declared.types.Ray.{Ray}
+use Rattle.trace.specs.Leg.{width}
 use Rattle.trace.specs.Run.{startOf, wholeOf}
+use Rattle.trace.specs.Wanted.{reachOf}
 use Rattle.trace.specs.Demand1.{GoodUpTo, Refused12}
-use Rattle.station.specs.Lent.{Left, stateIn, told, continued}
+use Rattle.station.specs.Lent.{Left, stateIn, told, continued, LeftRow, toldRow}
 
 -- the verdict: one of the call's own numbers, and a place that is 0, or where the good records before it end
 pub record Answers (numbers b : List ℕ) (w : Left) : Type 0 where
@@ -32,6 +34,12 @@ pub record Unchanged (c : List ℕ) (x z : List Float) (w : Left) : Type 0 where
   pub numbers : w .numbers ≡ x
   pub buffer : w .buffer ≡ z
 
+-- what is told of one surface: one of the call's own numbers, such a place, and +0.0 throughout a refused one's record
+pub record AnswersOne (b : List ℕ) (w : LeftRow) : Type 0 where
+  pub number : oneOf (1 ∷ 2 ∷ 3 ∷ 4 ∷ 10 ∷ []) (w .verdict .number) ≡ true
+  pub place : GoodUpTo b (w .verdict .place)
+  pub refused : w .verdict .number ≢ 1 → w .row ≡ replicate width 0f
+
 pub record Demand1 : Type 0 where
   pub start : (b : List ℕ) (ray : Ray) (index : Float) (z : List Float)
       → Answers (1 ∷ 2 ∷ 3 ∷ 4 ∷ 10 ∷ 11 ∷ []) b (told (startOf b ray index z))
@@ -39,6 +47,7 @@ pub record Demand1 : Type 0 where
       → Answers (1 ∷ 2 ∷ 3 ∷ 4 ∷ 10 ∷ 11 ∷ []) b (told (wholeOf b ray index z))
   pub resume : (b c : List ℕ) (x z : List Float) (allowed : ℕ)
       → Answers (1 ∷ 2 ∷ 3 ∷ 4 ∷ 10 ∷ 11 ∷ 12 ∷ []) b (continued b c x z allowed)
+  pub reach : (b : List ℕ) (ray : Ray) (index : Float) (k : ℕ) → AnswersOne b (toldRow (reachOf b ray index k))
   pub refused-start : (b : List ℕ) (ray : Ray) (index : Float) (z : List Float) →
       let w = told (startOf b ray index z) in
       w .verdict .number ≢ 1 → Blanked z w

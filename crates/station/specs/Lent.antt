@@ -8,6 +8,7 @@ use Rattle.numbers.specs.Arithmetic.{if_then_else_}
 use Rattle.surfaces.specs.Types.{rayOf}
 use Rattle.trace.specs.declared.state.State.{State}
 use Rattle.trace.specs.declared.run.Answer.{Answer}
+use Rattle.trace.specs.declared.wanted.Reached.{Reached}
 use Rattle.trace.specs.Run.{Reply, continueOf}
 use Rattle.station.specs.declared.Verdict.{Verdict}
 
@@ -70,3 +71,14 @@ toldIfAccepted c x r = if eqb (r .answer .number) 1 then told r else left (verdi
 -- continue, on the state that the arrays hold
 unfoldable pub continued : List ℕ → List ℕ → List Float → List Float → ℕ → Left
 continued b c x z allowed = toldIfAccepted c x (continueOf b (stateIn c x) z allowed)
+
+-- of one surface: the answer, and what stands in the lent record
+pub record LeftRow : Type 0 where
+  pub verdict : Verdict
+  pub row : List Float
+
+abbrev pub leftRow : Verdict → List Float → LeftRow
+leftRow v z = record { verdict = v; row = z }
+
+abbrev pub toldRow : Reached → LeftRow
+toldRow r = leftRow (record { number = r .number; place = r .place }) (r .row)

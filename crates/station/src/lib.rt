@@ -6,13 +6,16 @@ ghost use mathlib.Core.List.{List};
 ghost use lib.Ieee.{Float};
 ghost use Rattle.surfaces.specs.Types.{rayOf};
 ghost use Rattle.trace.specs.Run.{startOf, wholeOf};
+ghost use Rattle.trace.specs.Wanted.{reachOf};
 ghost use Rattle.station.specs.Lent.{version, passesIn, outcomeIn, stateIn, countsOf, numbersOf, verdictOf, left};
-ghost use Rattle.station.specs.Lent.{told, continued};
+ghost use Rattle.station.specs.Lent.{told, continued, leftRow, toldRow};
 use surfaces::ACCEPTED;
 use surfaces::ray_of;
 use trace::Answer;
 use trace::Beam;
+use trace::RECORD_NUMBERS;
 use trace::State;
+use trace::reach;
 use trace::start;
 use trace::whole;
 
@@ -203,6 +206,37 @@ pub extern "C" fn pilingrue_whole(
         counts,
         numbers,
     )
+}
+
+// The record of one surface, from the records up to it; no state and no result buffer takes part.
+#[no_mangle]
+pub extern "C" fn pilingrue_reach(
+    recipe: &[u8],
+    ox: f64,
+    oy: f64,
+    oz: f64,
+    dx: f64,
+    dy: f64,
+    dz: f64,
+    index: f64,
+    surface: u64,
+    row: &mut [f64; RECORD_NUMBERS],
+) -> Verdict
+    ensures { λ r. ⌜ leftRow r (now (row .exit))
+        ≡ toldRow (reachOf (now (recipe .entry)) (rayOf ox oy oz dx dy dz) index surface) ⌝ }
+{
+    let r = reach(
+        recipe,
+        ray_of(ox, oy, oz, dx, dy, dz),
+        index,
+        surface as usize,
+    );
+    let values = r.row;
+    *row = values;
+    Verdict {
+        number: r.number as u64,
+        place: r.place as u64,
+    }
 }
 
 // For a program to hold its header's version against.

@@ -33,12 +33,12 @@ use Rattle.trace.proofs.Passes.{passes, passes-stop}
 use Rattle.trace.proofs.Endings.{leg-stops}
 use Rattle.trace.proofs.Steps.{advance-ended, advance-add, midway, left, lands, waits}
 
-row-width : (x : Told Leg) (n : ℕ) → length (rowOf x n) ≡ width
+pub row-width : (x : Told Leg) (n : ℕ) → length (rowOf x n) ≡ width
 unfolding rowOf hitRow refusalRow
 row-width x n = either (λ (r : List Float). length r ≡ width) (done x) _ _ refl refl
 
 -- a record in front of what is shown of the rest
-padded-more : (v r : List Float) (m : ℕ) → length v ≡ width → v ++ padded (m - width) r ≡ padded m (v ++ r)
+pub padded-more : (v r : List Float) (m : ℕ) → length v ≡ width → v ++ padded (m - width) r ≡ padded m (v ++ r)
 unfolding padded
 padded-more v r m len =
     let e : m - width - length r ≡ m - length (v ++ r) = let q = length-append v r in omega arith in

@@ -1,5 +1,5 @@
 -- Demand 1: which numbers and places each call answers, and what a refused one leaves. Assumes nothing.
-use Prim.Native.Nat.{ℕ, _+_, _*_, _≤_}
+use Prim.Native.Nat.{ℕ, suc, _+_, _*_, _≤_}
 use mathlib.Core.Path.{_≡_, refl, sym, _∙_, ap, subst}
 use mathlib.Core.Logic.{_≢_, _↔_, _⊎_, inl, inr}
 use mathlib.Core.List.{List, [], _∷_}
@@ -7,7 +7,7 @@ use mathlib.Core.Bool.{Bool, true, false, not, _&&_, false≢true}
 use native.Mathlib.Omega.{arith}
 use native.Mathlib.Nat.{zero-add}
 use lib.ListN.{length, drop}
-use lib.Dec.{eqb, ltb}
+use lib.Dec.{eqb, ltb, leb}
 use lib.Ieee.{Float}
 use lib.Ieee.Scale.{finite}
 use borrow.Author.Tests.{ltb-false, le-ltb}
@@ -24,9 +24,11 @@ use Rattle.trace.specs.declared.state.State.{State}
 use Rattle.trace.specs.Leg.{width}
 use Rattle.trace.specs.State.{held, advance, fitsOf}
 use Rattle.trace.specs.Run.{mostRecords, Reply, reply, recipeOf, itemsOf, blank, refusedAnswer, refusedReply}
-use Rattle.trace.specs.Run.{admission, admitted, startAt, startOf, accept, continueOn, continueOf, wholeOf}
+use Rattle.trace.specs.Run.{rayAdmission, admission, admitted, startAt, startOf, accept, continueOn, continueOf, wholeOf}
+use Rattle.trace.specs.Wanted.{refusedReach, upTo, reachOn, reachOf}
 use Rattle.trace.specs.File.{startFileOf}
-use Rattle.trace.specs.Demand1.{GoodUpTo, none, more, Answers, Blanked, Unchanged, Refused12, Unfit, Demand1}
+use Rattle.trace.specs.Demand1.{GoodUpTo, none, more, Answers, AnswersOne, Blanked, Unchanged, Refused12}
+use Rattle.trace.specs.Demand1.{Unfit, Demand1}
 use Rattle.trace.proofs.Unfits.{unfit, fits-all}
 
 -- a start's numbers, and a continuation's
@@ -37,17 +39,28 @@ abbrev resumed : List ℕ
 resumed = 1 ∷ 2 ∷ 3 ∷ 4 ∷ 10 ∷ 11 ∷ 12 ∷ []
 
 -- the refused record stands where the good ones before it end
-leads : {b : List ℕ} {left at n p : ℕ} → GoodUpTo b at → Scanned b left at (refused n p) → GoodUpTo b p
+leads : {b : List ℕ} {all : Bool} {left at n p : ℕ} → GoodUpTo b at → Scanned b all left at (refused n p)
+    → GoodUpTo b p
 leads g (full h) = g
 leads g (stopped h e) = g
 leads g (fails h e s) = leads (more g e) s
 
+-- the ray's own numbers
+abbrev RayNumber : ℕ → Type 0
+RayNumber n = oneOf (1 ∷ 2 ∷ 4 ∷ []) n ≡ true
+
+ray-number : (ray : Ray) (index : Float) → RayNumber (rayAdmission ray index)
+unfolding rayAdmission oneOf
+ray-number ray index =
+    either RayNumber (not (rayFinite ray && finite index)) _ _ refl (either RayNumber (index ≤₆₄ 0f) _ _ refl refl)
+
 admission-number : (ray : Ray) (index : Float) (room count : ℕ) → oneOf begun (admission ray index room count) ≡ true
 unfolding admission oneOf
 admission-number ray index room count =
+    let n = rayAdmission ray index in
     let Begun : ℕ → Type 0 = λ n. oneOf begun n ≡ true in
-    either Begun (not (rayFinite ray && finite index)) _ _ refl
-    (either Begun (index ≤₆₄ 0f) _ _ refl (either Begun (ltb room (width * count)) _ _ refl refl))
+    either Begun (eqb n 1 && ltb room (width * count)) _ _ refl
+    (each (oneOf begun) (1 ∷ 2 ∷ 4 ∷ []) n refl (ray-number ray index))
 
 -- a start on the bytes b, whatever an accepted one leads to
 module _ (b : List ℕ) (base : ℕ) (ray : Ray) (index : Float) (z : List Float) (f : List Item → Reply)
@@ -67,9 +80,9 @@ module _ (b : List ℕ) (base : ℕ) (ray : Ray) (index : Float) (z : List Float
       either Begun (eqb n 1) _ _ (rw (good l .0)) (admission-number ray index (length (blank z)) (length l))
 
   number : oneOf begun (r .answer .number) ≡ true
-  number = number-by (recipeOf b) (scan-sound b mostRecords 0)
+  number = number-by (recipeOf b) (scan-sound true b mostRecords 0)
 
-  place-by : (s : Scan) → Scanned b mostRecords 0 s → Place (admitted s base ray index (blank z) f .answer .place)
+  place-by : (s : Scan) → Scanned b true mostRecords 0 s → Place (admitted s base ray index (blank z) f .answer .place)
   unfolding refusedAnswer
   place-by (refused n p) h = inr (p, refl, leads none h)
   place-by (items l) h =
@@ -77,7 +90,7 @@ module _ (b : List ℕ) (base : ℕ) (ray : Ray) (index : Float) (z : List Float
       either (λ (q : Reply). Place (q .answer .place)) (eqb n 1) _ _ (inl (good l .1)) (inl refl)
 
   place : Place (r .answer .place)
-  place = place-by (recipeOf b) (scanned b mostRecords 0)
+  place = place-by (recipeOf b) (scanned true b mostRecords 0)
 
   refused-by : (s : Scan) → admitted s base ray index (blank z) f .answer .number ≢ 1
       → Blanked z (admitted s base ray index (blank z) f)
@@ -122,6 +135,33 @@ module _ (f : List ℕ) (z : List Float) where
         blanked (drop sourceBytes f) sourceBytes (s .ray) (s .index) z _ (λ l. (refl, refl)),
       )
 
+-- one surface
+module _ (b : List ℕ) (ray : Ray) (index : Float) (k : ℕ) where
+  -- refused with a number of its own, and no place
+  unplaced : (n : ℕ) → oneOf (1 ∷ 2 ∷ 3 ∷ 4 ∷ 10 ∷ []) n ≡ true → AnswersOne b (refusedReach n 0)
+  unplaced n h = record { number = h; place = none; refused = λ _. refl }
+
+  one-by : (s : Scan) → Sound s → Scanned b false (suc k) 0 s → AnswersOne b (reachOn s ray index k)
+  unfolding oneOf
+  one-by (refused n p) h d =
+      record {
+        number = each (oneOf (1 ∷ 2 ∷ 3 ∷ 4 ∷ 10 ∷ [])) (2 ∷ 3 ∷ 4 ∷ 10 ∷ []) n refl h;
+        place = leads none d;
+        refused = λ _. refl;
+      }
+  one-by (items l) h d =
+      let n = rayAdmission ray index in
+      either (AnswersOne b) (leb (length l) k) _ _ (unplaced 2 refl)
+      (either (AnswersOne b) (eqb n 1) _ _
+      (record { number = refl; place = none; refused = λ h. absurd (h refl) })
+      (unplaced n (each (oneOf (1 ∷ 2 ∷ 3 ∷ 4 ∷ 10 ∷ [])) (1 ∷ 2 ∷ 4 ∷ []) n refl (ray-number ray index))))
+
+  one : AnswersOne b (reachOf b ray index k)
+  unfolding reachOf oneOf
+  one =
+      either (AnswersOne b) (leb mostRecords k) _ _ (unplaced 2 refl)
+      (one-by (upTo b k) (scan-sound false b (suc k) 0) (scanned false b (suc k) 0))
+
 -- a continuation
 module _ (b : List ℕ) (s : State) (z : List Float) (allowed : ℕ) where
   abbrev on : Scan → Reply
@@ -136,7 +176,7 @@ module _ (b : List ℕ) (s : State) (z : List Float) (allowed : ℕ) where
   abbrev Told : Reply → Type 0
   Told r = Answers resumed b r × (r .answer .number ≢ 1 → Unchanged s z r)
 
-  told-by : (r : Scan) → Sound r → Scanned b mostRecords 0 r → Told (on r)
+  told-by : (r : Scan) → Sound r → Scanned b true mostRecords 0 r → Told (on r)
   unfolding oneOf
   told-by (refused n p) h d = (
     record { number = each (oneOf resumed) (2 ∷ 3 ∷ 4 ∷ 10 ∷ []) n refl h; place = leads none d },
@@ -150,7 +190,7 @@ module _ (b : List ℕ) (s : State) (z : List Float) (allowed : ℕ) where
 
   told : Told (continueOf b s z allowed)
   unfolding continueOf
-  told = told-by (recipeOf b) (scan-sound b mostRecords 0) (scanned b mostRecords 0)
+  told = told-by (recipeOf b) (scan-sound true b mostRecords 0) (scanned true b mostRecords 0)
 
   -- what 12 says, by the recipe's surfaces
   gives-12 : (r : Scan) → Sound r → recipeOf b ≡ r → on r .answer .number ≡ 12 → Refused12 b s z
@@ -177,7 +217,7 @@ module _ (b : List ℕ) (s : State) (z : List Float) (allowed : ℕ) where
 
   twelve : (continueOf b s z allowed .answer .number ≡ 12) ↔ Refused12 b s z
   unfolding continueOf
-  twelve = (gives-12 (recipeOf b) (scan-sound b mostRecords 0) refl, λ h. rw (h .recipe) (given-12 h _ refl))
+  twelve = (gives-12 (recipeOf b) (scan-sound true b mostRecords 0) refl, λ h. rw (h .recipe) (given-12 h _ refl))
 
 pub demand-1 : Demand1
 unfolding startOf startAt wholeOf
@@ -185,6 +225,7 @@ demand-1 = record {
   start = λ b ray index z. answers b ray index z _ (λ l. (refl, refl));
   whole = λ b ray index z. answers b ray index z _ (λ l. (refl, refl));
   resume = λ b s z n. told b s z n .0;
+  reach = one;
   file-number = λ f z. in-file f z .0;
   file-place = λ f z. in-file f z .1;
   refused-start = λ b ray index z h. blanked b 0 ray index z _ (λ l. (refl, refl)) h;

@@ -30,7 +30,7 @@ use Rattle.trace.specs.Parts.{Stands, walking, arrived, Fit}
 use Rattle.trace.specs.Demand3.{calls, sum, stateAt, traceOf, Over, Kept, called, Demand3}
 use Rattle.trace.proofs.Steps.{advance-add, move-ended}
 use Rattle.trace.proofs.Closed.{Shows, outcome-before, closed}
-use Rattle.trace.proofs.Standing.{reached, exactly, total-limit, has-outcome, finished-all, at-end}
+use Rattle.trace.proofs.Standing.{how-far, exactly, total-limit, has-outcome, finished-all, at-end}
 use Rattle.trace.proofs.Fits.{fit-move, length-move, fit-fits}
 use Rattle.trace.proofs.Walks.{chain-of}
 use Rattle.trace.proofs.Starts.{Admitted, admitted-by, admitted-is}
@@ -95,7 +95,7 @@ module _ (y : List ℕ) (ray : Ray) (index : Float) (z : List Float) (a : Admitt
 
   few : (n : ℕ) → advance l n first .state .steps ≤ sumLimits l
   few n =
-      let s = ap (λ (s : State). s .steps) (shown n .state) ∙ reached l (length y) 0 0 n b .steps in
+      let s = ap (λ (s : State). s .steps) (shown n .state) ∙ how-far l (length y) 0 0 n b .steps in
       omega (arith, s, total-limit 0 l b)
 
   genuine-fits : (n : ℕ)
@@ -145,7 +145,7 @@ module _ (y : List ℕ) (ray : Ray) (index : Float) (z : List Float) (a : Admitt
   unfolding traceOf
   kept n =
       let s = shown n in
-      let r = reached l (length y) 0 0 n b in
+      let r = how-far l (length y) 0 0 n b in
       record {
         accepted = refl;
         place = refl;
@@ -161,7 +161,7 @@ module _ (y : List ℕ) (ray : Ray) (index : Float) (z : List Float) (a : Admitt
 module _ (y : List ℕ) (ray : Ray) (index : Float) (z : List Float) (h : startOf y ray index z .answer .number ≡ 1) where
   pub admitted-start : Admitted (recipeOf y) ray index (blank z)
   unfolding startOf startAt
-  admitted-start = admitted-by 0 ray index (blank z) (recipeOf y) (scan-sound y mostRecords 0) _ h
+  admitted-start = admitted-by 0 ray index (blank z) (recipeOf y) (scan-sound true y mostRecords 0) _ h
 
   pub started : startOf y ray index z ≡ accept (held (firstState (length (itemsOf y)) (beamOf ray index)) (blank z))
   unfolding startOf startAt

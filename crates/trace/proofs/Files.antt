@@ -34,12 +34,12 @@ source-long f h = by _ _ refl (isSource f) refl h
     by x w n false e k = absurd (omega (arith, n, k))
 
 -- a check's place is within the recipe
-pub place-within : (b : List ℕ) (w : ℕ) → checkOf b mostRecords w .place ≤ length b
+pub place-within : (b : List ℕ) (w : ℕ) → checkOf b mostRecords true w .place ≤ length b
 unfolding checkOf
-place-within b w = by (scan b mostRecords 0) refl
+place-within b w = by (scan true b mostRecords 0) refl
   where
-    by : (r : Scan) → scan b mostRecords 0 ≡ r → says w nothing r .place ≤ length b
-    by (refused n p) e = let h = scan-place b mostRecords 0 e in omega arith
+    by : (r : Scan) → scan true b mostRecords 0 ≡ r → says w nothing r .place ≤ length b
+    by (refused n p) e = let h = scan-place true b mostRecords 0 e in omega arith
     by (items l) e = omega (arith, notes-answer w nothing l .1)
 
 module _ (f : List ℕ) (z y : List Float) (blanked : y ≡ blank z) (s : Source) (read : s ≡ sourceOf f) (a : Answer) where
@@ -47,7 +47,7 @@ module _ (f : List ℕ) (z y : List Float) (blanked : y ≡ blank z) (s : Source
   unfolding startFileOf
   no-source h e = rw (← read, ne-eqb (s .number) 1 h, e, blanked)
 
-  pub with-source : s .number ≡ 1 → (c : Checked) → c ≡ checkOf (drop sourceBytes f) mostRecords 0
+  pub with-source : s .number ≡ 1 → (c : Checked) → c ≡ checkOf (drop sourceBytes f) mostRecords true 0
       → a ≡ begunOf c sourceBytes (s .ray) (s .index) (length y) → record { answer = a; buffer = y } ≡ startFileOf f z
   unfolding startFileOf
   with-source h c checked begun =
@@ -79,7 +79,7 @@ module _ (f : List ℕ) (z : List Float) where
           → (sourceOf f .number ≡ 1) × (startFileOf f z ≡ startBehind f z)
       by false t r e = let q = ap number (without-ray (eqb-false _ _ t)) in absurd (omega arith)
       by true t (refused n p) e =
-          let sound = rw e at (scan-sound (behindRay f) mostRecords 0) in
+          let sound = rw e at (scan-sound true (behindRay f) mostRecords 0) in
           let same = ap number (bad-record (eqb-true _ _ t) n p e) in
           absurd (not-1 sound (sym same ∙ h))
       by true t (items l) e = let s = eqb-true _ _ t in (s, good-records s l e)

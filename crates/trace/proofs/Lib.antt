@@ -9,10 +9,12 @@ mod Standing
 pub mod Fits
 pub mod Unfits
 mod Walks
+mod Kept
 pub mod Starts
 pub mod Demand1
 pub mod Demand3
 mod FirstCrossing
 mod Wholes
+mod OneSurface
 pub mod Files
 pub mod Long

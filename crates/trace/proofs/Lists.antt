@@ -5,8 +5,8 @@ use Prim.Native.Nat.{ℕ, zero, suc, _+_, _-_, _≤_, _<_}
 use native.Mathlib.Nat.{not-suc-le-zero, le-of-suc-le-suc, sub-zero}
 use native.Mathlib.Numerals.{add-one}
 use native.Mathlib.Omega.{arith}
-use lib.ListN.{length, getD, set, drop, replicate, drop-of-length-le, length-append, length-replicate}
-use lib.Seq.{sets, drop-cons, sets-eq, take-at, drop-append-add}
+use lib.ListN.{length, getD, set, take, drop, replicate, drop-of-length-le, length-append, length-replicate}
+use lib.Seq.{sets, drop-cons, drop-set-lt, drop-set-add, sets-eq, take-at, drop-append-add}
 
 module _ {A : Type 0} where
   fill-suc : (n : ℕ) (v : A) (d : List A) → n < length d
@@ -30,7 +30,7 @@ module _ {A : Type 0} where
       ∙ append-nil (replicate n v)
       ∙ ap (λ (k : ℕ). replicate k v) m
 
-  drop-replicate : (n m : ℕ) (v : A) → drop n (replicate m v) ≡ replicate (m - n) v
+  pub drop-replicate : (n m : ℕ) (v : A) → drop n (replicate m v) ≡ replicate (m - n) v
   drop-replicate zero m v = rw (sub-zero m)
   drop-replicate (suc n) zero v = let e : 0 - suc n ≡ 0 = omega arith in rw e
   drop-replicate (suc n) (suc m) v = let e : suc m - suc n ≡ m - n = omega arith in rw e (drop-replicate n m v)
@@ -54,3 +54,20 @@ module _ {A : Type 0} where
 
   pub sets-end : (l vs : List A) (at i : ℕ) → length vs ≤ i → sets l (at + i) (drop i vs) ≡ l
   sets-end l vs at i h = rw (drop-of-length-le vs h)
+
+  -- what is written before a place, and from it on, as the rest from there sees it
+  pub drop-sets-before : (vs l : List A) (i d : ℕ) → i + length vs ≤ d → drop d (sets l i vs) ≡ drop d l
+  drop-sets-before [] l i d h = refl
+  drop-sets-before (v ∷ vs) l i d h =
+      drop-sets-before vs (set l i v) (suc i) d (omega arith) ∙ drop-set-lt d l i v (omega arith)
+
+  pub drop-sets : (vs l : List A) (d i : ℕ) → drop d (sets l (d + i) vs) ≡ sets (drop d l) i vs
+  drop-sets [] l d i = refl
+  drop-sets (v ∷ vs) l d i =
+      let e : suc (d + i) ≡ d + suc i = omega arith in
+      rw e (drop-sets vs (set l (d + i) v) d (suc i) ∙ ap (λ (a : List A). sets a (suc i) vs) (drop-set-add d l i v))
+
+  pub take-replicate : (n m : ℕ) (v : A) → n ≤ m → take n (replicate m v) ≡ replicate n v
+  take-replicate zero m v h = refl
+  take-replicate (suc n) zero v h = absurd (not-suc-le-zero h)
+  take-replicate (suc n) (suc m) v h = ap (λ (l : List A). v ∷ l) (take-replicate n m v (le-of-suc-le-suc h))

@@ -25,25 +25,25 @@ use Rattle.trace.specs.Demand3.{stateAt, stepsTo}
 use Rattle.trace.proofs.Closed.{unbroken-hit, unbroken-off, state-mid, state-hit, state-off, never-going-on}
 
 -- how far a trace u has come after n steps, by a state s that began with q steps
-pub record Reached (u : Trace) (q n : ℕ) (s : State) : Type 0 where
+pub record HowFar (u : Trace) (q n : ℕ) (s : State) : Type 0 where
   pub steps : s .steps ≡ q + min n (total (u .marks))
   pub outcome : s .outcome ≡ (if leb (total (u .marks)) n then u .outcome else 0)
 
 module _ (q n : ℕ) (a : Mark) where
   unfinished : (u : Trace) (s : State) → n < a .steps → (l : List Mark) → u .marks ≡ a ∷ l → s .steps ≡ q + n
-      → s .outcome ≡ 0 → Reached u q n s
+      → s .outcome ≡ 0 → HowFar u q n s
   unfolding total
   unfinished u s h l m f g =
       let t : n < total (u .marks) = rw m (omega arith) in
       record { steps = f ∙ omega (arith, t); outcome = rw (lt-leb (total (u .marks)) n t) g }
 
   refused : (s : State) (o : ℕ) (b : Beam) → a .steps ≤ n → s .steps ≡ q + a .steps → s .outcome ≡ o
-      → Reached (record { marks = a ∷ []; outcome = o; beam = b; hits = 0 }) q n s
+      → HowFar (record { marks = a ∷ []; outcome = o; beam = b; hits = 0 }) q n s
   unfolding total
   refused s o b h f g = record { steps = f ∙ omega arith; outcome = rw (le-leb (a .steps + 0) n (omega arith)) g }
 
-  hit : (u : Trace) (s : State) → a .steps ≤ n → Reached u (q + a .steps) (n - a .steps) s
-      → Reached (record { marks = a ∷ u .marks; outcome = u .outcome; beam = u .beam; hits = suc (u .hits) }) q n s
+  hit : (u : Trace) (s : State) → a .steps ≤ n → HowFar u (q + a .steps) (n - a .steps) s
+      → HowFar (record { marks = a ∷ u .marks; outcome = u .outcome; beam = u .beam; hits = suc (u .hits) }) q n s
   unfolding total
   hit u s h r =
       record {
@@ -84,7 +84,7 @@ module _ (i : Item) (r : List Item) (end k q n : ℕ) (b : Beam) where
   whole = unbroken k (opticsOf (i ∷ r)) b
 
   on-surface : (t : Bool) → leb (e .passes) n ≡ t → (d : Bool) → done x ≡ d
-      → Reached later (q + e .passes) (n - e .passes) later-state → Reached whole q n (stateAt (i ∷ r) end k b q n)
+      → HowFar later (q + e .passes) (n - e .passes) later-state → HowFar whole q n (stateAt (i ∷ r) end k b q n)
   on-surface false t true d rest =
       let h = leb-false (e .passes) n t in
       let marks = ap (λ (u : Trace). u .marks) (unbroken-hit k i r b d) in
@@ -114,11 +114,11 @@ module _ (i : Item) (r : List Item) (end k q n : ℕ) (b : Beam) where
       let t : total (whole .marks) ≡ _ = ap (λ (u : Trace). total (u .marks)) (unbroken-off k i r b d) in
       state-off k i r b end q n (omega arith) d ∙ rw (unbroken-off k i r b d, add-zero k, add-zero (e .passes))
 
-pub reached : (r : List Item) (end k q n : ℕ) (b : Beam)
-    → Reached (unbroken k (opticsOf r) b) q n (stateAt r end k b q n)
+pub how-far : (r : List Item) (end k q n : ℕ) (b : Beam)
+    → HowFar (unbroken k (opticsOf r) b) q n (stateAt r end k b q n)
 unfolding unbroken stateAt total
-reached [] end k q n b = record { steps = omega arith; outcome = rw (leb·zero n) }
-reached (i ∷ r) end k q n b = on-surface i r end k q n b _ refl _ refl (reached r end (k + 1) _ _ _)
+how-far [] end k q n b = record { steps = omega arith; outcome = rw (leb·zero n) }
+how-far (i ∷ r) end k q n b = on-surface i r end k q n b _ refl _ refl (how-far r end (k + 1) _ _ _)
 
 -- surface k is finished if and only if its steps and those before it add up to at most n
 pub exactly : (l : List Mark) (n k : ℕ) → k < length l → (k < length (finished n l)) ↔ (stepsTo k l ≤ n)

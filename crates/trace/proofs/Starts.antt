@@ -1,5 +1,5 @@
 -- The ways out of start and continue, each at what its promise says. Assumes nothing.
-use Prim.Native.Nat.{ℕ, _*_, _≤_, _<_, zero-le}
+use Prim.Native.Nat.{ℕ, _+_, _*_, _≤_, _<_, zero-le}
 use mathlib.Core.Path.{_≡_, refl, sym, _∙_, ap}
 use mathlib.Core.Logic.{_≢_}
 use mathlib.Core.List.{List, [], _∷_}
@@ -25,8 +25,8 @@ use Rattle.trace.specs.declared.run.Answer.{Answer}
 use Rattle.trace.specs.Leg.{width}
 use Rattle.trace.specs.State.{Held, held, advance, beamGood, fitsOf}
 use Rattle.trace.specs.Run.{mostRecords, Reply, reply, blank, recipeOf, itemsOf, beamOf, firstState}
-use Rattle.trace.specs.Run.{refusedAnswer, refusedReply, admission, admitted, begunOf, startAt, accept}
-use Rattle.trace.specs.Run.{continueOn, continueOf}
+use Rattle.trace.specs.Run.{refusedAnswer, refusedReply, rayAdmission, admission, admitted, begunOf, startAt}
+use Rattle.trace.specs.Run.{accept, continueOn, continueOf}
 use Rattle.trace.specs.Parts.{Ready}
 use Rattle.trace.proofs.Fits.{good-beam, fits-fit, few-steps}
 
@@ -35,7 +35,7 @@ pub data Finding (w : ℕ) (c : Checked) : Scan → Type 0 where
   finds-bad : {n p : ℕ} → c .number ≡ n → c .place ≡ p → c .number ≢ 1 → Finding w c (refused n p)
   finds-good : {l : List Item} → c ≡ notes w nothing l → c .number ≡ 1 → c .count ≡ length l → Finding w c (items l)
 
-found : (w : ℕ) (c : Checked) (r : Scan) → Sound r → c ≡ says w nothing r → Finding w c r
+pub found : (w : ℕ) (c : Checked) (r : Scan) → Sound r → c ≡ says w nothing r → Finding w c r
 found w c (refused n p) h e =
     let number = ap (λ (k : Checked). k .number) e in
     finds-bad number (ap (λ (k : Checked). k .place) e) (λ q. not-1 h (sym number ∙ q))
@@ -44,9 +44,9 @@ found w c (items l) h e =
     let count = ap (λ (k : Checked). k .count) e in
     finds-good e (number ∙ notes-answer w nothing l .0) (omega (arith, count, notes-count w nothing l))
 
-pub finding : (b : List ℕ) (w : ℕ) (c : Checked) → c ≡ checkOf b mostRecords w → Finding w c (recipeOf b)
+pub finding : (b : List ℕ) (w : ℕ) (c : Checked) → c ≡ checkOf b mostRecords true w → Finding w c (recipeOf b)
 unfolding checkOf
-finding b w c e = found w c (recipeOf b) (scan-sound b mostRecords 0) e
+finding b w c e = found w c (recipeOf b) (scan-sound true b mostRecords 0) e
 
 -- an answer and the buffer beside it
 beside : (z : List Float) (accept : Answer) (n : ℕ) (t : Bool)
@@ -65,7 +65,7 @@ begun c (items l) (finds-good e n k) base ray index z =
     let started : Answer = record { number = 1; place = 0; state = firstState (length l) (beamOf ray index) } in
     rw (eq-eqb (c .number) 1 n, k) (beside z started a (eqb a 1))
 
-pub start-is : (b : List ℕ) (c : Checked) → c ≡ checkOf b mostRecords 0
+pub start-is : (b : List ℕ) (c : Checked) → c ≡ checkOf b mostRecords true 0
     → (base : ℕ) (ray : Ray) (index : Float) (z y : List Float) (a : Answer) → y ≡ blank z
     → a ≡ begunOf c base ray index (length y) → record { answer = a; buffer = y } ≡ startAt base b ray index z
 unfolding startAt
@@ -86,26 +86,36 @@ module _ (ray : Ray) (index : Float) where
   unfolding beamGood decimal
   start-good u v = rw (both (rayFinite ray) _ u .0, both (rayFinite ray) _ u .1, v)
 
+  pub ray-good : rayAdmission ray index ≡ 1 → beamGood (beamOf ray index) ≡ true
+  unfolding rayAdmission
+  ray-good h = by (rayFinite ray && finite index) refl (index ≤₆₄ 0f) refl h
+    where
+      by : (u : Bool) → (rayFinite ray && finite index) ≡ u → (v : Bool) → (index ≤₆₄ 0f) ≡ v
+          → _≡_ {A = ℕ} (if not u then 2 else if v then 4 else 1) 1 → beamGood (beamOf ray index) ≡ true
+      by false a v b h = absurd (omega arith)
+      by true a true b h = absurd (omega arith)
+      by true a false b h = start-good a b
+
+  pub good-ray : beamGood (beamOf ray index) ≡ true → rayAdmission ray index ≡ 1
+  unfolding rayAdmission
+  good-ray b = let g = good-beam (beamOf ray index) b in rw (g .0, g .2 .0, g .2 .1)
+
   admission-good : (room count : ℕ) → admission ray index room count ≡ 1
       → (beamGood (beamOf ray index) ≡ true) × (width * count ≤ room)
   unfolding admission
-  admission-good room count h =
-      by (rayFinite ray && finite index) (index ≤₆₄ 0f) (ltb room (width * count)) refl refl refl h
+  admission-good room count h = by (eqb (rayAdmission ray index) 1) refl (ltb room (width * count)) refl h
     where
-      by : (u v w : Bool) → (rayFinite ray && finite index) ≡ u → (index ≤₆₄ 0f) ≡ v → ltb room (width * count) ≡ w
-          → _≡_ {A = ℕ} (if not u then 2 else if v then 4 else if w then 11 else 1) 1
+      by : (u : Bool) → eqb (rayAdmission ray index) 1 ≡ u → (w : Bool) → ltb room (width * count) ≡ w
+          → _≡_ {A = ℕ} (if u && w then 11 else rayAdmission ray index) 1
           → (beamGood (beamOf ray index) ≡ true) × (width * count ≤ room)
-      by false v w a b c h = absurd (omega arith)
-      by true true w a b c h = absurd (omega arith)
-      by true false true a b c h = absurd (omega arith)
-      by true false false a b c h = (start-good a b, ltb-false _ _ c)
+      by true a true b h = absurd (omega arith)
+      by true a false b h = (ray-good h, ltb-false _ _ b)
+      by false a w b h = absurd (eqb-false _ _ a h)
 
   good-admission : (room count : ℕ) → beamGood (beamOf ray index) ≡ true → width * count ≤ room
       → admission ray index room count ≡ 1
   unfolding admission
-  good-admission room count b h =
-      let g = good-beam (beamOf ray index) b in
-      rw (g .0, g .2 .0, g .2 .1, le-ltb room (width * count) h)
+  good-admission room count b h = rw (good-ray b, le-ltb room (width * count) h)
 
 module _ (base : ℕ) (ray : Ray) (index : Float) (z : List Float) where
   admits : (l : List Item) (f : Reply) (t : Bool) → let n = admission ray index (length z) (length l) in
@@ -141,7 +151,7 @@ module _ (base : ℕ) (ray : Ray) (index : Float) (z : List Float) where
 
 -- continue
 module _ (b : List ℕ) (s : State) (z : List Float) (k : ℕ) (c : Checked)
-    (e : c ≡ checkOf b mostRecords (s .number)) where
+    (e : c ≡ checkOf b mostRecords true (s .number)) where
   bad : (r : Scan) → Finding (s .number) c r → c .number ≢ 1
       → reply (c .number) (c .place) s z ≡ continueOn r (length b) s z k
   bad (refused n p) (finds-bad q f g) h = rw (q, f)
@@ -185,9 +195,14 @@ module _ (b : List ℕ) (s : State) (z : List Float) (k : ℕ) (c : Checked)
         noted : fitsOf (notes (s .number) nothing l) (length b) s ≡ true
         noted = rw (← recipe-good .1) q
 
-        pub on-ready : Ready b (length z) (c .count) s
+        pub on-ready : Ready b (width * 0 + length z) (c .count) s
         on-ready =
-            record { good = recipe-good .0; counted = recipe-good .2; fits = i; fit = fits-fit l (length b) s noted }
+            record {
+              good = recipe-good .0;
+              counted = recipe-good .2;
+              fits = omega arith;
+              fit = fits-fit l (length b) s noted;
+            }
 
         pub on-steps : s .steps ≤ sumLimits l
         on-steps = few-steps l (length b) s noted
@@ -199,4 +214,4 @@ sum-few [] = zero-le
 sum-few (i ∷ l) = omega (arith, limit-bounds (i .optic .surface .kind) .1, sum-few l)
 
 pub limits-few : (b : List ℕ) → sumLimits (itemsOf b) ≤ 17920
-limits-few b = omega (arith, sum-few (itemsOf b), scan-few b mostRecords 0)
+limits-few b = omega (arith, sum-few (itemsOf b), scan-few true b mostRecords 0)

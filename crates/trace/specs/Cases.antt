@@ -1,6 +1,7 @@
--- Worked cases of start, continue and whole, the example of SCOPE L4 among them: one list, which one theorem covers.
--- A row has a rule's answer and the right one, each as numbers: the answer's number and place, the state's counts, and
--- the bit patterns of the state's numbers and of the whole result buffer. Assumes nothing.
+-- Worked cases of start, continue, whole and reach, the example of SCOPE L4 among them: one list, which one theorem
+-- covers. A row has a rule's answer and the right one, each as numbers: the answer's number and place, the state's
+-- counts, and the bit patterns of the state's numbers and of the whole result buffer; of a reach those of its record.
+-- Assumes nothing.
 use Prim.Native.Nat.{ℕ, _+_, _*_, _^_}
 use mathlib.Core.Path.{_≡_, refl}
 use mathlib.Core.Bool.{true, false}
@@ -30,12 +31,14 @@ use Rattle.recipe.specs.Scan.{scan, placeOf, notes}
 use Rattle.recipe.specs.Source.{isSource, vectorAt, sourceOf}
 use Rattle.trace.specs.declared.leg.Beam.{Beam}
 use Rattle.trace.specs.declared.state.State.{State}
+use Rattle.trace.specs.declared.wanted.Reached.{Reached}
 use Rattle.trace.specs.Leg.{boundaryOf, share, legFinite, legOf, beamAfter, hitRow, refusalRow, rowOf}
 use Rattle.trace.specs.Unbroken.{unbroken, total, rows, padded}
 use Rattle.trace.specs.State.{pausedAt, stateAfter, surfaceLeft, stepOn, move, advance, outcomeKnown, placeFits}
 use Rattle.trace.specs.State.{passesFit, beamGood, fitsOf}
-use Rattle.trace.specs.Run.{recipeOf, Reply, refusedAnswer, admission, startAt, startOf, continueOn, continueOf}
-use Rattle.trace.specs.Run.{wholeOf}
+use Rattle.trace.specs.Run.{recipeOf, Reply, refusedAnswer, rayAdmission, admission, startAt, startOf}
+use Rattle.trace.specs.Run.{continueOn, continueOf, wholeOf}
+use Rattle.trace.specs.Wanted.{reachOf}
 use Rattle.trace.specs.File.{startFileOf}
 use Rattle.trace.specs.Example.{bytes, patterns, beamRecord, planeRecord}
 
@@ -52,6 +55,13 @@ on recipe call =
     let b = recipe in
     let r = call b in
     shown (r .answer .number) (r .answer .place) (r .answer .state) (r .buffer)
+
+-- what is told of one surface of a recipe
+unfoldable pub asked : List ℕ → (List ℕ → Reached) → List ℕ
+asked recipe question =
+    let b = recipe in
+    let r = question b in
+    r .number ∷ r .place ∷ bits (r .row)
 
 -- a buffer that holds the last lens's numbers
 abbrev pub stale : ℕ → List Float
@@ -291,6 +301,26 @@ cases =
     (on (lens ++ 0 ∷ []) (λ b. continueOf b unfit (stale 25) 9) ⇒ shown 10 104 unfit (stale 25)) ∷
     (on lens (λ b. continueOf b unfit (stale 25) 9) ⇒ shown 11 0 unfit (stale 25)) ∷
     (on lens (λ b. continueOf b unfit (stale 26) 9) ⇒ shown 12 0 unfit (stale 26)) ∷
+    -- one surface: that record alone, from the records up to it; where the beam was lost before, at and behind it
+    (asked lens (λ b. reachOf b (before .ray) 1f 1) ⇒ 1 ∷ 0 ∷ bits second) ∷
+    (asked narrow (λ b. reachOf b (ray (vec 2f 0f (neg 1f)) z) 1f 2) ⇒ 1 ∷ 0 ∷ bits (blanks 13)) ∷
+    (asked narrow (λ b. reachOf b (ray (vec 2f 0f (neg 1f)) z) 1f 1) ⇒
+    1 ∷ 0 ∷ bits (refusal (whole 7) 2f 1f 1f)) ∷
+    (asked narrow (λ b. reachOf b (ray (vec 2f 0f (neg 1f)) z) 1f 0) ⇒
+    1 ∷ 0 ∷ bits (hit 1f (vec 2f 0f 0f) -z z 1f 1f)) ∷
+    -- a plane and a byte, numbers 0 and 1; a record that is refused, behind the surface and at it
+    (asked (plane 0f 2f (whole 10) ++ 0 ∷ []) (λ b. reachOf b (before .ray) 1f 0) ⇒ 1 ∷ 0 ∷ bits first) ∷
+    (asked (plane 0f 2f (whole 10) ++ 0 ∷ []) (λ b. reachOf b (before .ray) 1f 1) ⇒ 10 ∷ 44 ∷ bits (blanks 13)) ∷
+    (asked (lens ++ plane 0f 0f 1f) (λ b. reachOf b (before .ray) 1f 1) ⇒ 1 ∷ 0 ∷ bits second) ∷
+    (asked (lens ++ plane 0f 0f 1f) (λ b. reachOf b (before .ray) 1f 2) ⇒ 4 ∷ 104 ∷ bits (blanks 13)) ∷
+    -- a number that no record can have, before the records' refusals; the last that one can have
+    (asked (0 ∷ []) (λ b. reachOf b (before .ray) 1f 512) ⇒ 2 ∷ 0 ∷ bits (blanks 13)) ∷
+    (asked (0 ∷ []) (λ b. reachOf b (before .ray) 1f 511) ⇒ 10 ∷ 0 ∷ bits (blanks 13)) ∷
+    -- a number past the end, with a ray that is none, and before the index's 4; then these
+    (asked lens (λ b. reachOf b (ray (vec nan 0f 0f) z) 1f 2) ⇒ 2 ∷ 0 ∷ bits (blanks 13)) ∷
+    (asked lens (λ b. reachOf b (before .ray) 0f 2) ⇒ 2 ∷ 0 ∷ bits (blanks 13)) ∷
+    (asked lens (λ b. reachOf b (ray (vec nan 0f 0f) z) 0f 1) ⇒ 2 ∷ 0 ∷ bits (blanks 13)) ∷
+    (asked lens (λ b. reachOf b (before .ray) 0f 1) ⇒ 4 ∷ 0 ∷ bits (blanks 13)) ∷
     -- 12, a row for each condition, with states beside it that are accepted. The outcome, here 0 to 10 at the asphere
     (answered lens (map (λ o. state 1 44 0 0f inside 1 o) (0 ∷ 1 ∷ 2 ∷ 3 ∷ 4 ∷ 5 ∷ 6 ∷ 7 ∷ 8 ∷ 9 ∷ 10 ∷ [])) ⇒
     1 ∷ 12 ∷ 1 ∷ 12 ∷ 1 ∷ 1 ∷ 1 ∷ 1 ∷ 1 ∷ 1 ∷ 12 ∷ []) ∷
@@ -323,7 +353,7 @@ cases =
     1 ∷ 12 ∷ 12 ∷ 12 ∷ 12 ∷ []) ∷ []
 
 pub each-case : agree cases ≡ true
-unfolding cases lens folded pointed narrow on ending answered bits _over_ bytes patterns beamRecord planeRecord decimal
+unfolding cases lens folded pointed narrow on asked ending answered bits _over_ bytes patterns beamRecord planeRecord decimal
     magnitude negative larger clamped infinite root neg round add sub mul div lt le eq isNan ofBits toBits ofInt dotOf
     vectorLength overOf distance pointAt allFinite rayFinite everyFinite turnedIf negatedIf mirrored reflected bent
     refracted landedWithin planeCrossing conicCrossing normalAt arrivedAt movedBy passAt vertexPlane passesFrom
@@ -333,5 +363,6 @@ unfolding cases lens folded pointed narrow on ending answered bits _over_ bytes 
     numbersAt slotAt lengthFits formedAt shapedAt semiSlot kindOf oddCount evenCount coefficientsAt opticAt negativeSemi
     recordAt scan placeOf notes isSource vectorAt sourceOf boundaryOf share legFinite legOf beamAfter hitRow refusalRow
     rowOf unbroken total rows padded pausedAt stateAfter surfaceLeft stepOn move advance outcomeKnown placeFits
-    passesFit beamGood fitsOf refusedAnswer admission startAt startOf startFileOf continueOf wholeOf
+    passesFit beamGood fitsOf refusedAnswer rayAdmission admission startAt startOf startFileOf continueOf wholeOf
+    reachOf
 each-case = refl

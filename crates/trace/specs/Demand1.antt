@@ -19,8 +19,10 @@ use Rattle.recipe.specs.Record.{good, recordAt}
 use Rattle.recipe.specs.Scan.{Item, items, itemAt, sumLimits}
 use Rattle.recipe.specs.Source.{sourceBytes}
 use Rattle.trace.specs.declared.state.State.{State}
+use Rattle.trace.specs.declared.wanted.Reached.{Reached}
 use Rattle.trace.specs.Leg.{width}
 use Rattle.trace.specs.Run.{Reply, recipeOf, itemsOf, noBeam, startOf, continueOf, wholeOf}
+use Rattle.trace.specs.Wanted.{reachOf}
 use Rattle.trace.specs.File.{startFileOf}
 
 -- a place where good records, one behind the other from the recipe's first byte on, end: 0 if there are none
@@ -44,6 +46,13 @@ pub record Blanked (z : List Float) (r : Reply) : Type 0 where
 pub record Unchanged (s : State) (z : List Float) (r : Reply) : Type 0 where
   pub state : r .answer .state ≡ s
   pub buffer : r .buffer ≡ z
+
+-- What a question for one surface answers: one of its own numbers, such a place, and +0.0 throughout the record of a
+-- refused one.
+pub record AnswersOne (b : List ℕ) (r : Reached) : Type 0 where
+  pub number : oneOf (1 ∷ 2 ∷ 3 ∷ 4 ∷ 10 ∷ []) (r .number) ≡ true
+  pub place : GoodUpTo b (r .place)
+  pub refused : r .number ≢ 1 → r .row ≡ replicate width 0f
 
 -- A state that does not fit the surfaces l of a recipe of `end` bytes.
 pub data Unfit (l : List Item) (end : ℕ) (s : State) : Type 0 where
@@ -85,6 +94,8 @@ pub record Demand1 : Type 0 where
   -- or a state that does not fit
   pub resume : (b : List ℕ) (s : State) (z : List Float) (allowed : ℕ)
       → Answers (1 ∷ 2 ∷ 3 ∷ 4 ∷ 10 ∷ 11 ∷ 12 ∷ []) b (continueOf b s z allowed)
+  -- of one surface, for which there is no buffer and no state
+  pub reach : (b : List ℕ) (ray : Ray) (index : Float) (k : ℕ) → AnswersOne b (reachOf b ray index k)
   -- in a program's file, whose places count from its start
   pub file-number : (f : List ℕ) (z : List Float)
       → oneOf (1 ∷ 2 ∷ 3 ∷ 4 ∷ 10 ∷ 11 ∷ []) (startFileOf f z .answer .number) ≡ true

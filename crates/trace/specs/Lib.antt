@@ -2,11 +2,13 @@ pub mod Leg
 pub mod Unbroken
 pub mod State
 pub mod Run
+pub mod Wanted
 pub mod File
 pub mod Parts
 pub mod Demand1
 pub mod Demand3
 pub mod FirstCrossing
+pub mod OneSurface
 pub mod Long
 pub mod Example
 pub mod Cases

@@ -3,7 +3,9 @@ use Prim.Native.Nat.{ℕ, _*_, _≤_, _<_}
 use mathlib.Core.Path.{_≡_}
 use mathlib.Core.Bool.{true}
 use mathlib.Core.List.{List}
-use lib.ListN.{length}
+use lib.ListN.{length, replicate, drop}
+use lib.Ieee.{Float}
+use Rattle.numbers.specs.Arithmetic.{0f}
 use Rattle.surfaces.specs.Refusal.{Told, gives, refused, stops, lineOf}
 use Rattle.surfaces.specs.Surface.{limitOf}
 use Rattle.recipe.specs.Scan.{Item, items, itemAt, placeOf}
@@ -12,7 +14,7 @@ use Rattle.trace.specs.declared.leg.Ending.the-variants as ending
 use Rattle.trace.specs.declared.leg.Leg.{Leg}
 use Rattle.trace.specs.declared.state.State.{State}
 use Rattle.trace.specs.Leg.{noLeg, width}
-use Rattle.trace.specs.State.{beamGood}
+use Rattle.trace.specs.State.{Held, held, beamGood}
 use Rattle.trace.specs.Run.{recipeOf, itemsOf}
 
 -- what the end of a surface tells
@@ -39,3 +41,14 @@ pub record Ready (b : List ℕ) (room count : ℕ) (s : State) : Type 0 where
   pub counted : count ≡ length (itemsOf b)
   pub fits : width * count ≤ room
   pub fit : Fit (itemsOf b) (length b) s
+
+-- A walk may be lent a part of a result buffer: its records from surface `first` on are kept, and those before them
+-- are not, which are blank at first.
+abbrev pub keptFrom : ℕ → List Float → List Float
+keptFrom first z = drop (width * first) z
+
+abbrev pub blanks : ℕ → List Float
+blanks first = replicate (width * first) 0f
+
+abbrev pub lentFrom : ℕ → Held → Held
+lentFrom first h = held (h .state) (keptFrom first (h .buffer))

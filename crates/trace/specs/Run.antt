@@ -1,7 +1,7 @@
 -- What start and continue answer, and what they leave in the result buffer, on every input. Definitions only.
 use Prim.Native.Nat.{ℕ, _+_, _*_}
 use mathlib.Core.List.{List, map}
-use mathlib.Core.Bool.{not, _&&_}
+use mathlib.Core.Bool.{true, not, _&&_}
 use lib.ListN.{length, replicate}
 use lib.Dec.{eqb, ltb}
 use lib.Ieee.{Float}
@@ -24,7 +24,7 @@ abbrev pub mostRecords : ℕ
 mostRecords = 512
 
 abbrev pub recipeOf : List ℕ → Scan
-recipeOf b = scan b mostRecords 0
+recipeOf b = scan true b mostRecords 0
 
 pub record Reply : Type 0 where
   pub answer : Answer
@@ -50,12 +50,17 @@ refusedReply n p z = record { answer = refusedAnswer n p; buffer = z }
 abbrev pub beamOf : Ray → Float → Beam
 beamOf ray index = record { ray = ray; index = index; path = 0f }
 
--- ray and index finite, index above 0, room for so many records: 1, or the refusal
+-- ray and index finite, index above 0: 1, or the refusal
+unfoldable pub rayAdmission : Ray → Float → ℕ
+rayAdmission ray index =
+    if not (rayFinite ray && finite index) then 2 else
+    if index ≤₆₄ 0f then 4 else 1
+
+-- then room for so many records
 unfoldable pub admission : Ray → Float → ℕ → ℕ → ℕ
 admission ray index room count =
-    if not (rayFinite ray && finite index) then 2 else
-    if index ≤₆₄ 0f then 4 else
-    if ltb room (width * count) then 11 else 1
+    let n = rayAdmission ray index in
+    if eqb n 1 && ltb room (width * count) then 11 else n
 
 -- the checks of a start, the recipe's first, with places counted from `base` on
 abbrev pub admitted : Scan → ℕ → Ray → Float → List Float → (List Item → Reply) → Reply

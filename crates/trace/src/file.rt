@@ -23,6 +23,6 @@ pub fn start_file(file: &[u8], buf: &mut [f64]) -> Answer
         return refused(MALFORMED, 0);
     }
     let ray = s.ray;
-    let c = check(&file[SOURCE_BYTES..], MOST_RECORDS, 0);
+    let c = check(&file[SOURCE_BYTES..], MOST_RECORDS, true, 0);
     begin(c, SOURCE_BYTES, ray, s.index, buf.len())
 }

@@ -4,6 +4,7 @@ mod file;
 mod leg;
 mod run;
 mod state;
+mod wanted;
 
 pub use file::start_file;
 pub use leg::BLANK;
@@ -32,3 +33,5 @@ pub use run::whole;
 pub use state::DONE;
 pub use state::RUNNING;
 pub use state::State;
+pub use wanted::Reached;
+pub use wanted::reach;

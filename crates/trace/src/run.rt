@@ -1,14 +1,16 @@
 // Start and continue.
 ghost use mathlib.Core.Path.{_≡_};
 ghost use Prim.Native.Nat.{_+_, _*_, _≤_, _<_, _^_};
+ghost use mathlib.Core.List.{List, _++_};
 ghost use lib.ListN.{length};
 ghost use lib.Seq.{sets};
+ghost use lib.Ieee.{Float};
 ghost use Rattle.surfaces.specs.Refusal.{toldCrossing};
 ghost use Rattle.trace.specs.Leg.{width};
 ghost use Rattle.trace.specs.State.{held, standing, surfaceLeft, advance};
-ghost use Rattle.trace.specs.Run.{blank, itemsOf, refusedAnswer, admission, begunOf, startOf, continueOf};
-ghost use Rattle.trace.specs.Run.{wholeOf};
-ghost use Rattle.trace.specs.Parts.{Ready};
+ghost use Rattle.trace.specs.Run.{blank, itemsOf, refusedAnswer, rayAdmission, admission, begunOf};
+ghost use Rattle.trace.specs.Run.{startOf, continueOf, wholeOf};
+ghost use Rattle.trace.specs.Parts.{Ready, blanks, keptFrom, lentFrom};
 use crate::leg::BLANK;
 use crate::leg::Beam;
 use crate::leg::RECORD_NUMBERS;
@@ -60,12 +62,17 @@ pub(crate) fn blank_out(buf: &mut [f64])
     }
 }
 
-// The record of the surface of a number.
-fn write_row(buf: &mut [f64], number: usize, values: [f64; RECORD_NUMBERS])
-    requires { ⌜ width * number + width ≤ length (now buf) ⌝ }
-    ensures { λ _. ⌜ now (buf .exit) ≡ sets (now (buf .entry)) (width * number) values ⌝ }
+// The record of the surface of a number, into a buffer that begins with the first one's; those before it are not kept.
+fn write_row(buf: &mut [f64], first: usize, number: usize, values: [f64; RECORD_NUMBERS])
+    requires { ⌜ width * number + width ≤ width * first + length (now buf) ⌝ }
+    ensures { λ _.
+        ⌜ ((z : List Float) → now (buf .entry) ≡ keptFrom first z
+        → now (buf .exit) ≡ keptFrom first (sets z (width * number) values)) ⌝ }
 {
-    let at = RECORD_NUMBERS * number;
+    if number < first {
+        return;
+    }
+    let at = RECORD_NUMBERS * (number - first);
     let mut i = 0;
     while i < RECORD_NUMBERS {
         buf[at + i] = values[i];
@@ -77,30 +84,39 @@ fn write_row(buf: &mut [f64], number: usize, values: [f64; RECORD_NUMBERS])
 fn leave(
     s: State,
     buf: &mut [f64],
+    first: usize,
     read: ReadRecord,
     count: usize,
     x: Crossing,
     passes: u16,
     steps: usize,
 ) -> State
-    requires { ⌜ (width * s .number + width ≤ length (now buf)) × (s .number + 1 < 2 ^ 64) ⌝ }
+    requires { ⌜ (width * s .number + width ≤ width * first + length (now buf)) × (s .number + 1 < 2 ^ 64) ⌝ }
     ensures { λ r.
-        ⌜ held r (now (buf .exit))
-        ≡ surfaceLeft (held s (now (buf .entry))) (read .next) count (read .optic) (toldCrossing x) passes steps ⌝ }
+        ⌜ ((z : List Float) → now (buf .entry) ≡ keptFrom first z → held r (now (buf .exit))
+        ≡ lentFrom first (surfaceLeft (held s z) (read .next) count (read .optic) (toldCrossing x) passes steps)) ⌝ }
 {
     let o = read.optic;
     let beam = s.beam;
     let e = leg_of(s.number, o, beam, x);
-    write_row(buf, s.number, row(e, passes));
+    write_row(buf, first, s.number, row(e, passes));
     s.after(read.next, count, o, e, steps)
 }
 
-// At most `allowed` steps, and none once the trace has ended.
-fn walk(state: State, recipe: &[u8], buf: &mut [f64], count: usize, allowed: u16) -> State
-    requires { ⌜ (Ready (now recipe) (length (now buf)) count state) × (state .steps < 2 ^ 62) ⌝ }
+// At most `allowed` steps, and none once the trace has ended. Only the records from the surface `first` on are kept.
+pub(crate) fn walk(
+    state: State,
+    recipe: &[u8],
+    buf: &mut [f64],
+    first: usize,
+    count: usize,
+    allowed: u16,
+) -> State
+    requires { ⌜ (Ready (now recipe) (width * first + length (now buf)) count state) × (state .steps < 2 ^ 62) ⌝ }
     ensures { λ r.
         ⌜ held r (now (buf .exit))
-        ≡ advance (itemsOf (now (recipe .entry))) allowed (held state (now (buf .entry))) ⌝ }
+        ≡ lentFrom first
+        (advance (itemsOf (now (recipe .entry))) allowed (held state (blanks first ++ now (buf .entry)))) ⌝ }
 {
     let mut s = state;
     let mut left = allowed;
@@ -126,7 +142,7 @@ fn walk(state: State, recipe: &[u8], buf: &mut [f64], count: usize, allowed: u16
             Passed::Given(l) => Crossing::Given(l),
             Passed::Refused(e) => Crossing::Refused(e),
         };
-        s = leave(s, buf, read, count, crossing, passes, steps);
+        s = leave(s, buf, first, read, count, crossing, passes, steps);
     }
     s
 }
@@ -147,7 +163,7 @@ pub(crate) fn refused(number: u8, place: usize) -> Answer
 }
 
 // Before the first surface.
-fn before_first(beam: Beam, outcome: u8) -> State
+pub(crate) fn before_first(beam: Beam, outcome: u8) -> State
     ensures { λ r. ⌜ r ≡ standing 0 0 beam 0 outcome ⌝ }
 {
     State {
@@ -161,15 +177,23 @@ fn before_first(beam: Beam, outcome: u8) -> State
     }
 }
 
-// Ray and index, then room for so many records: 1, or the refusal.
-fn admission(ray: Ray, index: f64, room: usize, count: usize) -> u8
-    ensures { λ n. ⌜ n ≡ admission ray index room count ⌝ }
+// Ray and index: 1, or the refusal.
+pub(crate) fn ray_admission(ray: Ray, index: f64) -> u8
+    ensures { λ n. ⌜ n ≡ rayAdmission ray index ⌝ }
 {
     if !(ray_finite(ray) & is_finite(index)) {
         return BAD_PARAMETER;
     }
-    if index <= 0.0 {
-        return SINGULAR;
+    if index <= 0.0 { SINGULAR } else { ACCEPTED }
+}
+
+// Then room for so many records.
+fn admission(ray: Ray, index: f64, room: usize, count: usize) -> u8
+    ensures { λ n. ⌜ n ≡ admission ray index room count ⌝ }
+{
+    let n = ray_admission(ray, index);
+    if n != ACCEPTED {
+        return n;
     }
     if room / RECORD_NUMBERS < count {
         BUFFER_TOO_SHORT
@@ -208,7 +232,8 @@ pub fn start(recipe: &[u8], ray: Ray, index: f64, buf: &mut [f64]) -> Answer
         ≡ startOf (now (recipe .entry)) ray index (now (buf .entry)) ⌝ }
 {
     blank_out(buf);
-    begin(check(recipe, MOST_RECORDS, 0), 0, ray, index, buf.len())
+    let c = check(recipe, MOST_RECORDS, true, 0);
+    begin(c, 0, ray, index, buf.len())
 }
 
 // Start, then all steps at once.
@@ -218,7 +243,7 @@ pub fn whole(recipe: &[u8], ray: Ray, index: f64, buf: &mut [f64]) -> Answer
         ≡ wholeOf (now (recipe .entry)) ray index (now (buf .entry)) ⌝ }
 {
     blank_out(buf);
-    let c = check(recipe, MOST_RECORDS, 0);
+    let c = check(recipe, MOST_RECORDS, true, 0);
     let a = begin(c, 0, ray, index, buf.len());
     if a.number != ACCEPTED {
         return a;
@@ -227,7 +252,7 @@ pub fn whole(recipe: &[u8], ray: Ray, index: f64, buf: &mut [f64]) -> Answer
     Answer {
         number: ACCEPTED,
         place: 0,
-        state: walk(s, recipe, buf, c.count, u16::MAX),
+        state: walk(s, recipe, buf, 0, c.count, u16::MAX),
     }
 }
 
@@ -248,7 +273,7 @@ impl State {
             ⌜ record { answer = r; buffer = now (buf .exit) }
             ≡ continueOf (now (recipe .entry)) self (now (buf .entry)) allowed ⌝ }
     {
-        let c = check(recipe, MOST_RECORDS, self.number);
+        let c = check(recipe, MOST_RECORDS, true, self.number);
         if c.number != ACCEPTED {
             return self.kept(c.number, c.place);
         }
@@ -258,6 +283,6 @@ impl State {
         if !self.fits(c, recipe.len()) {
             return self.kept(STATE_DOES_NOT_FIT, 0);
         }
-        walk(self, recipe, buf, c.count, allowed).kept(ACCEPTED, 0)
+        walk(self, recipe, buf, 0, c.count, allowed).kept(ACCEPTED, 0)
     }
 }

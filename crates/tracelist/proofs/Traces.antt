@@ -2,6 +2,7 @@
 use Prim.Native.Nat.{ℕ, _≤_}
 use mathlib.Core.Path.{_≡_, sym, _∙_, ap}
 use mathlib.Core.Logic.{_≢_}
+use mathlib.Core.Bool.{true}
 use mathlib.Core.List.{List}
 use native.Mathlib.Omega.{arith}
 use lib.Ieee.{Float}
@@ -57,7 +58,7 @@ module _ (f : List ℕ) where
     admission =
         let number-is = ap number (start-alike f z room size) ∙ ok in
         let started = file .accepted f z number-is in
-        admitted-by 0 ray index (blank z) (recipeOf b) (scan-sound b mostRecords 0) _
+        admitted-by 0 ray index (blank z) (recipeOf b) (scan-sound true b mostRecords 0) _
         (sym (ap number (started .1)) ∙ number-is)
 
     -- what the whole trace behind the ray leaves
@@ -78,7 +79,7 @@ module _ (f : List ℕ) where
       few-records =
           let m = length-map (itemsOf b) (λ (i : Item). i .optic) in
           let few = marks-few 0 (opticsOf (itemsOf b)) (beamOf ray index) in
-          rw (whole ∙ left, ← marks-counted shape) (omega (arith, few, scan-few b mostRecords 0))
+          rw (whole ∙ left, ← marks-counted shape) (omega (arith, few, scan-few true b mostRecords 0))
 
       -- its lines are the listing
       pub traced-listing : stateLines (r .buffer) (r .answer .state) ≡ listing f

@@ -26,7 +26,7 @@ use Rattle.recipe.specs.Source.{isSource, vectorAt, sourceOf}
 use Rattle.lines.specs.Output.{glyph, hexText, decimalText}
 use Rattle.trace.specs.Leg.{boundaryOf, share, legFinite, legOf, beamAfter, hitRow, refusalRow, rowOf}
 use Rattle.trace.specs.Unbroken.{unbroken, total}
-use Rattle.trace.specs.Run.{refusedAnswer, admission, startAt}
+use Rattle.trace.specs.Run.{refusedAnswer, rayAdmission, admission, startAt}
 use Rattle.trace.specs.Demand3.{traceOf}
 use Rattle.trace.specs.File.{startFileOf}
 use Rattle.trace.specs.Example.{bytes, patterns, beamRecord, planeRecord}
@@ -121,6 +121,6 @@ unfolding cases recordOf offAxis pointer pane bowl inverted noIndex _&_ lined of
     evenFacing evenNormal surfaceEnd surfaceNormal onwardFrom turnAnswer u16At u32At u64At numberAt numbersAt slotAt
     lengthFits formedAt shapedAt semiSlot kindOf oddCount evenCount coefficientsAt opticAt negativeSemi recordAt scan
     isSource vectorAt sourceOf glyph hexText decimalText boundaryOf share legFinite legOf beamAfter hitRow refusalRow
-    rowOf unbroken total refusedAnswer admission startAt startFileOf traceOf bytes patterns beamRecord planeRecord ascii
+    rowOf unbroken total refusedAnswer rayAdmission admission startAt startFileOf traceOf bytes patterns beamRecord planeRecord ascii
     line recordLine recordLines endLine refusedLine traceLines listing
 each-case = refl

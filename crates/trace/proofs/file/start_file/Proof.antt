@@ -1,6 +1,7 @@
 -- Without the record of the ray the file is refused, and with it the start on the rest decides. Assumes nothing.
 use Prim.Native.Nat.{ℕ, _-_, _≤_}
 use mathlib.Core.Path.{_≡_, sym, _∙_, ap}
+use mathlib.Core.Bool.{true}
 use mathlib.Core.List.{List}
 use native.Mathlib.Omega.{arith}
 use lib.Ieee.{Float}
@@ -41,11 +42,11 @@ long c =
 abbrev behind : tie.After-check → List ℕ
 behind c = drop sourceBytes (file-of (source (c .before .before)))
 
-checked : (c : tie.After-check) → c .check .result ≡ checkOf (behind c) mostRecords 0
+checked : (c : tie.After-check) → c .check .result ≡ checkOf (behind c) mostRecords true 0
 checked c =
     let f = file-of (source (c .before .before)) in
     let whole = take-all (length f - sourceBytes) (drop sourceBytes f) (simp length-drop (omega arith)) in
-    c .check .ensures ∙ ap (λ (l : List ℕ). checkOf l mostRecords 0) whole
+    c .check .ensures ∙ ap (λ (l : List ℕ). checkOf l mostRecords true 0) whole
 
 returns : tie.Need-returns
 returns c =

@@ -1,4 +1,5 @@
--- Drafted (tools/draft): opens State.surfaceLeft. By the tests and the calls, in order. Assumes nothing.
+-- The record and the state by the calls, whatever stands before what is kept. Assumes nothing.
+use mathlib.Core.Path.{_≡_}
 use borrow.Author.Needs.{needs}
 use Rattle.trace.specs.State.{surfaceLeft}
 use Rattle.trace.proofs.run.leave.Statement.{statement}
@@ -14,6 +15,6 @@ leave-spec =
     (λ c κs. search needs)
     (λ c κs. search needs)
     (λ c. search needs)
-    (λ c.
+    (λ c z kept.
     let c3 = c .before .before .before in let c4 = c3 .before in let c6 = c4 .before .before in
-    rw (← c6 .leg-of .ensures, ← c4 .row .ensures, ← c3 .write-row .ensures, ← c .after .ensures)))
+    rw (← c6 .leg-of .ensures, ← c4 .row .ensures, c3 .write-row .ensures z kept, ← c .after .ensures)))

@@ -1,5 +1,5 @@
-"""Draws scripts: lenses and chains of surfaces, whole and in parts, damaged recipes, bad rays, short rooms and forged
-states."""
+"""Draws scripts: lenses and chains of surfaces, whole and in parts, damaged recipes, bad rays, short rooms, forged
+states and questions for one surface."""
 import math
 import struct
 
@@ -207,3 +207,21 @@ class OddScripts(Scripts):
 
     def __init__(self, seed):
         super().__init__(f"{seed} odd")
+
+
+class Reaches(OddScripts):
+    """Questions for one surface, between the lines of other scripts. These are drawn apart too."""
+
+    sorts = {sort: share for sort, share in SORTS.items() if sort not in ("short", "forged", "misfit")}
+
+    def __init__(self, seed):
+        super().__init__(f"{seed} reach")
+
+    def script(self, sort):
+        lines = super().script(sort)
+        ray = next(line for line in lines if line.startswith("start")).split(" ", 1)[1]
+        for _ in range(self.choice([1, 2, 4])):
+            numbers = [0, 1, 2, self.random.randrange(8), self.random.randrange(520), self.random.getrandbits(64)]
+            at = self.random.randrange(1, len(lines) + 1)
+            lines.insert(at, f"reach {self.choice(numbers)} {ray}")
+        return lines

@@ -9,7 +9,7 @@ from fixed import DOWN, FLAT_AND_FAST, FOUR, INFINITY, NAN, UP
 from floats import LARGEST, SMALLEST, of_pattern, pattern
 from operations import SEMI
 from recipes import LIMITS, RELAY, SAMPLES, bytes_of, places, recipe, record
-from scripts import WIDTH, continue_line, recipe_line, room_line, start_line, state_line, words
+from scripts import WIDTH, continue_line, reach_line, recipe_line, room_line, start_line, state_line, words
 
 AXIS = [0.0, 0.0, -5.0, *UP]
 # to a vertex at 1e308 from here is no finite way
@@ -476,6 +476,57 @@ def optical_paths():
     yield traced([plane(index=1e308)], AXIS, "1 9", index=1e308)
 
 
+def reached(number, record):
+    return ["reach 1 0", f"record {number} {words(record)}"]
+
+
+def reaches():
+    """One surface's record, from the records up to it; nothing happens to the station meanwhile."""
+    ray, first = [2.0, 0.0, -1.0, *UP], [1.0, 1.0, 2.0, 0.0, 0.0, *DOWN, *UP, 1.0, 1.0]
+    narrow = [plane(), plane(1.0, semi=1.0), plane(2.0)]
+    yield [
+        *given(narrow, 41),
+        (start_line(ray), "1 0 0 0"),
+        (continue_line(1), "1 0 1 0"),
+        # the beam is lost before, at and behind the surface
+        (reach_line(2, ray), ["reach 1 0"]),
+        (reach_line(1, ray), reached(1, [7.0, 2.0, 1.0, *[0.0] * 9, 1.0])),
+        (reach_line(0, ray), reached(0, first)),
+        # a number that is too large, past the end and before the ray, ray and index
+        *((reach_line(n, ray), ["reach 2 0"]) for n in (3, 511, 512, 2**32, 2**64 - 1)),
+        *((reach_line(n, [NAN] * 6), ["reach 2 0"]) for n in (2, 3, 511, 512)),
+        *((reach_line(3, ray, index), ["reach 2 0"]) for index in (0.0, INFINITY)),
+        *((reach_line(2, ray, index), ["reach 4 0"]) for index in (0.0, -0.0, -1.0)),
+        (reach_line(2, [*ray[:5], NAN], -1.0), ["reach 2 0"]),
+        (continue_line(0), "1 0 1 0"),
+        (room_line(0), None),
+        (reach_line(0, ray), reached(0, first)),
+        (continue_line(), "11 0 1 0"),
+    ]
+    # a plane and a byte; a record that is refused at its number and not before; no record, and none but a bad one
+    for data, number, place in [(b"\0", 10, AFTER), (spoilt(PLANE, index=0.0), 4, AFTER), (negative(PLANE), 3, AFTER)]:
+        answered = (reach_line(0, ray), reached(0, first))
+        refused = ((reach_line(n, ray), [f"reach {number} {place}"]) for n in (1, 2, 511))
+        yield [(recipe_line(behind(data)), None), answered, *refused, (reach_line(512, ray), ["reach 2 0"])]
+    yield [*given([]), (reach_line(0, ray), ["reach 2 0"]), (reach_line(0, ray, 0.0), ["reach 2 0"])]
+    refused = [(reach_line(n, ray), ["reach 10 0"]) for n in (0, 511)]
+    yield [(recipe_line(b"\0"), None), *refused, (reach_line(512, ray), ["reach 2 0"])]
+    # 600 planes, of which a start refuses the 513th
+    many = [plane(float(i)) for i in range(600)]
+    seventh = [1.0, 1.0, 2.0, 0.0, 7.0, *DOWN, *UP, 1.0, 1.0]
+    yield [
+        *given(many, 13),
+        (reach_line(7, ray), reached(7, seventh)),
+        (reach_line(511, ray), reached(511, [*seventh[:4], 511.0, *seventh[5:]])),
+        (reach_line(512, ray), ["reach 2 0"]),
+        (start_line(ray), f"10 {44 * 512} 0 10"),
+    ]
+    # kinds that pass, in parts of a lens that is traced whole
+    for name in ("doublet", "phone", "mirrors", "toroid"):
+        ray, surfaces = SAMPLES[name]
+        yield [*given(surfaces), *((reach_line(n, ray), "1 0") for n in range(len(surfaces)))]
+
+
 STATE = state_line(0, 0, 0, 0.0, AXIS, 1.0, 0.0, 0, 0)
 UNREADABLE = [
     "",
@@ -520,6 +571,16 @@ UNREADABLE = [
     f"state 0 0 0 0 {' '.join([FOUR] * 8)} 0 0",
     f"state 0 0 {' '.join([FOUR] * 10)} 0 0",
     f"state 0 0 0 {' '.join([FOUR] * 10)} 0 0",
+    "reach",
+    "reach 1",
+    f"reach {' '.join([FOUR] * 7)}",
+    f"reach 1 {' '.join([FOUR] * 6)}",
+    f"reach 1 {' '.join([FOUR] * 8)}",
+    f"reach 1 1 {' '.join([FOUR] * 7)}",
+    f"reach -1 {' '.join([FOUR] * 7)}",
+    f"reach A {' '.join([FOUR] * 7)}",
+    f"reach 18446744073709551616 {' '.join([FOUR] * 7)}",
+    f"Reach 1 {' '.join([FOUR] * 7)}",
     "continue",
     "continue 1 1",
     "continue 65536",
@@ -546,6 +607,7 @@ def unreadable():
         ("continue 000000000000000000000000000001", "1 0 1 0"),
         (STATE.lower().replace("state 0 0", "state  000 0").replace("state", " state"), None),
         (" continue 65535", "1 0 2 1"),
+        (f" reach  0000000000000000000000000001  {words(AXIS).lower()} {pattern(1.0)} ", "1 0"),
         (full.replace("7FF8", "FFFA"), None),
         ("continue 65535", f"12 0 {2**64 - 1} 255"),
         ("room 8192", None),
@@ -595,4 +657,5 @@ LONG = [
 def fixed_scripts():
     """All but the long ones."""
     scripts = [EXAMPLE, SIGNS, *TRACES, *lenses(), *damaged(), *bad_rays(), *rooms(), *forged()]
-    return [*scripts, unreadable(), longest(), *ODD_TRACES, damaged_odd(), forged_odd(), most_bytes(), *optical_paths()]
+    scripts += [unreadable(), longest(), *ODD_TRACES, damaged_odd(), forged_odd(), most_bytes(), *optical_paths()]
+    return [*scripts, *reaches()]

@@ -29,9 +29,13 @@ def state_line(number, place, passes, t, ray, index, path, steps, outcome):
     return f"state {number} {place} {passes} {words([t, *ray, index, path])} {steps} {outcome}"
 
 
+def reach_line(number, ray, index=1.0):
+    return f"reach {number} {words([*ray, index])}"
+
+
 def asks(line):
     """Whether a line that can be read is replied to."""
-    return line.split()[0] in ("start", "continue")
+    return line.split()[0] in ("start", "continue", "reach")
 
 
 def replies(answer):
@@ -50,6 +54,7 @@ def path(reply):
 
 
 def told(reply):
-    """Of a reply its number, place, all steps and outcome."""
-    head, state = reply[0].split(), reply[1].split()
-    return [int(x) for x in (*head[1:], *state[-2:])]
+    """Of a reply its number and place, and of one with a state all steps and the outcome."""
+    what, *head = reply[0].split()
+    state = [] if what == "reach" else reply[1].split()
+    return [int(x) for x in (*head, *state[-2:])]

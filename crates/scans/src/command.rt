@@ -22,9 +22,18 @@ pub enum Command {
     // So many bytes, which stand beside the command.
     Recipe(usize),
     Room(usize),
-    Start { ray: Ray, index: f64 },
+    Start {
+        ray: Ray,
+        index: f64,
+    },
     State(State),
     Continue(u16),
+    // The record of the surface of a number.
+    Reach {
+        surface: usize,
+        ray: Ray,
+        index: f64,
+    },
     Unreadable,
     // There are no more lines.
     End,
@@ -48,6 +57,9 @@ pub(crate) fn read_command(line: &[u8], given: &mut Bytes) -> Command {
     }
     if same(name, b"continue") {
         return read_continue(line, word.end);
+    }
+    if same(name, b"reach") {
+        return read_reach(line, word.end);
     }
     Command::Unreadable
 }
@@ -140,6 +152,22 @@ fn read_continue(line: &[u8], at: usize) -> Command {
     let n = next_count(line, at, 65535);
     if is_end(line, n.next) {
         Command::Continue(n.value as u16)
+    } else {
+        Command::Unreadable
+    }
+}
+
+fn read_reach(line: &[u8], at: usize) -> Command {
+    let n = next_count(line, at, u64::MAX);
+    let from = next_ray(line, n.next);
+    let index = next_number(line, from.next);
+    let ray = from.value;
+    if is_end(line, index.next) {
+        Command::Reach {
+            surface: n.value as usize,
+            ray,
+            index: index.value,
+        }
     } else {
         Command::Unreadable
     }

@@ -1,6 +1,7 @@
 // One station, driven by the script on standard input: a line gives it a recipe, room for results or a state, or has it
-// start a trace or continue one. To the last two it replies with the answer, the state, and what stands in the results.
-// A line that cannot be read is answered `?`.
+// start a trace or continue one, or asks for one surface's record. To a start and a continuation it replies with the
+// answer, the state, and what stands in the results, to a question with the answer and the record. A line that cannot
+// be read is answered `?`.
 mod command;
 mod operands;
 mod reply;

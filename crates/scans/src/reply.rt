@@ -8,6 +8,7 @@ use lines::put_word;
 use lines::write_line;
 use trace::Answer;
 use trace::RECORD_NUMBERS;
+use trace::Reached;
 use trace::State;
 
 // The most bytes of each line: its word and a space, then counts and numbers.
@@ -34,6 +35,14 @@ pub(crate) fn print_reply(what: &[u8], a: Answer, results: &[f64]) -> bool {
         return false;
     }
     print_results(results)
+}
+
+pub(crate) fn print_reach(surface: usize, r: Reached) -> bool {
+    let row = r.row;
+    if !print_answer(b"reach", r.number, r.place) {
+        return false;
+    }
+    print_record(surface, &row)
 }
 
 fn print_answer(what: &[u8], number: u8, place: usize) -> bool {

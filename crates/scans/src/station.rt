@@ -1,6 +1,7 @@
 // What lasts from line to line, and what a command makes of it.
 use crate::command::Bytes;
 use crate::command::Command;
+use crate::reply::print_reach;
 use crate::reply::print_reply;
 use crate::reply::print_unreadable;
 use lines::part;
@@ -10,6 +11,7 @@ use trace::Beam;
 use trace::MOST_ROOM;
 use trace::RUNNING;
 use trace::State;
+use trace::reach;
 use trace::start;
 
 // How many bytes of the recipe and numbers of the results are in use, and the last state.
@@ -77,6 +79,16 @@ pub(crate) fn obey(
         ),
         Command::State(next) => after(length, room, next, true),
         Command::Continue(n) => go_on(s, part(recipe, 0, length), n, first(results, room)),
+        Command::Reach {
+            surface,
+            ray,
+            index,
+        } => after(
+            length,
+            room,
+            state,
+            tell(part(recipe, 0, length), surface, ray, index),
+        ),
         Command::Unreadable => after(length, room, state, print_unreadable()),
         Command::End => after(length, room, state, false),
     }
@@ -98,6 +110,11 @@ fn go_on(s: Station, recipe: &[u8], allowed: u16, results: &mut [f64]) -> Turn {
         state,
         print_reply(b"continue", a, results),
     )
+}
+
+// What stands of a trace takes no part.
+fn tell(recipe: &[u8], surface: usize, ray: Ray, index: f64) -> bool {
+    print_reach(surface, reach(recipe, ray, index, surface))
 }
 
 fn after(length: usize, room: usize, state: State, going: bool) -> Turn {

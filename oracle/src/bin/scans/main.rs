@@ -45,9 +45,7 @@ impl Station {
         let index = numbers[6];
         let refusal = match recipe::surfaces(&self.recipe) {
             Err(refusal) => Some(refusal),
-            _ if !numbers.iter().all(|x| x.is_finite()) => Some((2, 0)),
-            _ if index <= 0.0 => Some((4, 0)),
-            _ => self.surfaces_with_room().err(),
+            _ => ray_refusal(numbers).or_else(|| self.surfaces_with_room().err()),
         };
         let (outcome, answer) = match refusal {
             Some(refusal) => (refusal.0, refusal),
@@ -81,13 +79,24 @@ impl Station {
         (1, 0)
     }
 
+    /// The record of one surface of the whole trace, for which the last surface is the last of the recipe.
+    fn reach(&self, number: u64, numbers: &[f64]) -> Result<[f64; WIDTH], Answer> {
+        let number = usize::try_from(number).ok().filter(|&number| number < recipe::MOST_RECORDS).ok_or((2, 0))?;
+        let surfaces = recipe::first(&self.recipe, number + 1)?;
+        let last = surfaces.get(number).ok_or((2, 0))?;
+        let index = numbers[6];
+        if let Some(refusal) = ray_refusal(numbers) {
+            return Err(refusal);
+        }
+        let begun = State { ray: ray(numbers), index, ..State::refused(0) };
+        let passages = unbroken(&surfaces, last.place, &begun);
+        Ok(passages.get(number).map_or([0.0; WIDTH], |passage| passage.record))
+    }
+
     fn shown(&self, what: &str, (number, place): Answer) -> String {
-        let is_shown = |numbers: &[f64]| numbers.iter().any(|x| x.to_bits() != 0);
         let (records, tail) = self.buffer.as_chunks::<WIDTH>();
         let mut text = format!("{what} {number} {place}\nstate {}\n", self.state.words());
-        for (j, record) in records.iter().enumerate().filter(|(_, record)| is_shown(*record)) {
-            text += &format!("record {j}{}\n", written(record));
-        }
+        text.extend(records.iter().enumerate().map(|(j, record)| shown_record(j, record)));
         if is_shown(tail) {
             text += &format!("tail{}\n", written(tail));
         }
@@ -118,9 +127,35 @@ impl Station {
                 let answer = self.carry_on(count(n, u16::MAX.into())?);
                 Some(self.shown("continue", answer))
             }
+            ["reach", number, ref words @ ..] if words.len() == 7 => {
+                let number = count(number, u64::MAX)?;
+                let ((answer, place), record) = match self.reach(number, &numbers(words)?) {
+                    Ok(record) => ((1, 0), record),
+                    Err(refusal) => (refusal, [0.0; WIDTH]),
+                };
+                Some(format!("reach {answer} {place}\n{}", shown_record(number, &record)))
+            }
             _ => None,
         }
     }
+}
+
+/// Of a ray and its index.
+fn ray_refusal(numbers: &[f64]) -> Option<Answer> {
+    match numbers {
+        _ if !numbers.iter().all(|x| x.is_finite()) => Some((2, 0)),
+        [.., index] if *index <= 0.0 => Some((4, 0)),
+        _ => None,
+    }
+}
+
+fn is_shown(numbers: &[f64]) -> bool {
+    numbers.iter().any(|x| x.to_bits() != 0)
+}
+
+/// Nothing for a blank one.
+fn shown_record(number: impl std::fmt::Display, record: &[f64; WIDTH]) -> String {
+    if is_shown(record) { format!("record {number}{}\n", written(record)) } else { String::new() }
 }
 
 fn count(word: &str, most: u64) -> Option<u64> {

@@ -4,7 +4,7 @@ use oracle::conic::ConicSurface;
 use oracle::surface::asphere::{EvenAsphere, OddAsphere};
 use oracle::surface::biconic::{BiconicSurface, ToroidalSurface};
 
-const MOST_RECORDS: usize = 512;
+pub const MOST_RECORDS: usize = 512;
 const LAST_END: usize = 65_536;
 const MOST_COEFFICIENTS: usize = 8;
 
@@ -27,9 +27,14 @@ pub struct Surface {
 
 /// All surfaces, or the number of the first refusal and its record's place.
 pub fn surfaces(recipe: &[u8]) -> Result<Vec<Surface>, (u8, usize)> {
+    first(recipe, usize::MAX)
+}
+
+/// So many of them, or all if there are fewer. Bytes behind these are not read.
+pub fn first(recipe: &[u8], count: usize) -> Result<Vec<Surface>, (u8, usize)> {
     let mut surfaces = Vec::new();
     let mut place = 0;
-    while place < recipe.len() {
+    while place < recipe.len() && surfaces.len() < count {
         let room = surfaces.len() < MOST_RECORDS;
         let (kind, numbers) = shape(&recipe[place..]).filter(|_| room).ok_or((10, place))?;
         let end = place + 4 + 8 * numbers.len();

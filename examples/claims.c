@@ -356,6 +356,45 @@ static void lens_file_begins_with_the_ray(void) {
     claim(accepted(begin(pilingrue_start, &doublet, loaded.beam, ROOM)), "the recipe is what stands behind them");
 }
 
+/* The record is filled before, so that each number is seen to be written. */
+static pilingrue_verdict ask(const recipe *r, const double b[BEAM], uint64_t surface, double record[SECOND]) {
+    memset(record, 0xA5, SECOND * sizeof *record);
+    return pilingrue_reach(r->bytes, r->size, b[0], b[1], b[2], b[3], b[4], b[5], b[6], surface, record);
+}
+
+static int reaches(const recipe *r, const double b[BEAM], uint64_t surface, const double wanted[SECOND]) {
+    double record[SECOND];
+    return accepted(ask(r, b, surface, record)) && memcmp(record, wanted, sizeof record) == 0;
+}
+
+static int unreached(const recipe *r, const double b[BEAM], uint64_t surface, uint64_t number, uint64_t place) {
+    double record[SECOND];
+    return refused(ask(r, b, surface, record), number, place) &&
+           memcmp(record, ZEROS.buffer, sizeof record) == 0;
+}
+
+static void one_surface_is_told(void) {
+    const double *third = unbroken.buffer + 2 * SECOND;
+    before = live;
+    claim(reaches(&doublet, loaded.beam, 2, third) && unchanged(),
+          "a surface's record is the one that a whole trace writes, and no state takes part");
+    claim(reaches(doublet_with_bad_kind(), loaded.beam, 2, third),
+          "what stands behind the surface's record is not checked");
+    claim(unreached(doublet_with_bad_kind(), loaded.beam, 3, PILINGRUE_MALFORMED, LAST),
+          "the surface's own record is checked, and the verdict has its place");
+    claim(unreached(doublet_with_bad_kind(), loaded.beam, PILINGRUE_MOST_RECORDS, PILINGRUE_BAD_PARAMETER, 0),
+          "a number that is not below PILINGRUE_MOST_RECORDS is refused with 2 before the records are checked");
+    claim(unreached(&doublet, beam_with(6, 0), SURFACES, PILINGRUE_BAD_PARAMETER, 0),
+          "a number past the recipe's end is refused with 2 before the beam is checked");
+    claim(unreached(&doublet, beam_with(6, 0), 0, PILINGRUE_SINGULAR, 0), "the beam is checked as in a start");
+    claim(reaches(doublet_with(LAST, SEMI_DIAMETER, 0), loaded.beam, 2, third),
+          "what the beam meets behind the surface is of no matter");
+    begin(pilingrue_whole, doublet_with(CONIC_BYTES, SEMI_DIAMETER, 0), loaded.beam, ROOM);
+    claim(reaches(&changed, loaded.beam, 1, live.buffer + SECOND) && live.buffer[SECOND] == PILINGRUE_VIGNETTED,
+          "where the surface refuses the beam, its record tells that");
+    claim(reaches(&changed, loaded.beam, 2, ZEROS.buffer), "a beam that was lost before leaves a blank record");
+}
+
 static void most_are_the_most(void) {
     const size_t records = PILINGRUE_MOST_RECORDS;
     const recipe *conics = many(records, PILINGRUE_KIND_CONIC, 5);
@@ -453,6 +492,7 @@ static void hold_all(void) {
     odd_asphere_has_its_limit();
     path_is_the_optical_one();
     lens_file_begins_with_the_ray();
+    one_surface_is_told();
     most_are_the_most();
     longest_recipe_is_the_longest();
     allowance_is_narrowed();

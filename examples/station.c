@@ -1,6 +1,7 @@
 /* A centring station. It traces the beam through a lens a few steps a scan, and its gluing cell reads the record of the
    last surface. It replays the accident: the beam is lost while the channel still has the hit point of the lens before.
-   Then power and recipe fail it. Every scan is held against the same trace in one call, bit by bit.
+   Then power and recipe fail it. Every scan is held against the same trace in one call, bit by bit. At last its loader
+   asks in each scan for a surface before the last.
 
    station LENS [STEPS]: a lens as in samples/, and the steps of a scan (1). The exit status is 1 if a promise was not
    kept. */
@@ -331,6 +332,44 @@ static void program_is_exchanged(double x) {
     scans(1, ALL, PILINGRUE_ACCEPTED);
 }
 
+/* The loader asks for one surface, and goes on once the beam is known to hit it. */
+static void ask(double x, size_t surface, uint64_t expected) {
+    const double *b = loaded.beam;
+    double record[PILINGRUE_RECORD_NUMBERS];
+    pilingrue_verdict v = pilingrue_reach(loaded.recipe, loaded.recipe_bytes, x, b[1], b[2], b[3], b[4], b[5], b[6],
+                                          surface, record);
+    int is_accepted = v.number == PILINGRUE_ACCEPTED;
+    printf("the loader asks for surface %d%s%s", (int)surface, is_accepted ? "" : ", which is refused, ",
+           is_accepted ? "" : MEANING[v.number]);
+    show_record(record);
+    printf(" | it %s\n", status_of(record) == PILINGRUE_HIT ? "goes on" : "waits");
+    promise(v.number == expected, "what a question answers");
+    promise(memcmp(record, is_accepted ? record_of(&unbroken, surface) : BLANK, sizeof record) == 0,
+            "a surface's record is the unbroken trace's, and blank after a refusal");
+    promise(memcmp(&live, &last, sizeof live) == 0, "a question changes nothing of a trace");
+}
+
+static void loader_asks(double x) {
+    size_t surface = (surfaces - 1) / 2, at = last_place() + 2;
+    change_lens("Lens 9: the loader asks in each scan for a surface, and waits for none behind it.");
+    start(x, PILINGRUE_ACCEPTED);
+    ask(x, surface, PILINGRUE_ACCEPTED);
+    for (int n = 1; n < ALL && live.counts[PILINGRUE_COUNTS_OUTCOME] == PILINGRUE_RUNNING; n++) {
+        scans(n, n, PILINGRUE_ACCEPTED);
+        ask(x, surface, PILINGRUE_ACCEPTED);
+    }
+    flip_recipe(at, 255);
+    puts("the recipe's last record is not loaded yet");
+    ask(x, surface, PILINGRUE_ACCEPTED);
+    ask(x, surfaces - 1, PILINGRUE_MALFORMED);
+    flip_recipe(at, 255);
+    ask(x, surfaces, PILINGRUE_BAD_PARAMETER);
+    ask(NAN, surface, PILINGRUE_BAD_PARAMETER);
+    puts("the beam is knocked 40 mm aside");
+    trace_unbroken(x + 40.0);
+    ask(x + 40.0, surface, PILINGRUE_ACCEPTED);
+}
+
 static void work(double x) {
     beam_is_there(x);
     beam_is_lost();
@@ -340,15 +379,16 @@ static void work(double x) {
     recipe_goes_bad(x);
     beam_is_knocked_aside(x);
     program_is_exchanged(x);
+    loader_asks(x);
 }
 
-/* A new lens is tried once as a whole. */
+/* A new lens is tried once as a whole. It has a surface before the last. */
 static int suits(double x) {
     pilingrue_verdict v = trace_unbroken(x);
     uint64_t number = v.number == PILINGRUE_ACCEPTED ? unbroken.counts[PILINGRUE_COUNTS_OUTCOME] : v.number;
     surfaces = unbroken.counts[PILINGRUE_COUNTS_SURFACE];
     if (number != PILINGRUE_DONE) fprintf(stderr, "station: %s, place %d\n", MEANING[number], (int)v.place);
-    return number == PILINGRUE_DONE && surfaces > 0;
+    return number == PILINGRUE_DONE && surfaces > 1;
 }
 
 int main(int argc, char **argv) {

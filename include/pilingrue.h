@@ -8,7 +8,8 @@
 
      pilingrue_start      once for each lens: checks recipe and beam, blanks the result buffer, takes no step;
      pilingrue_continue   in each scan, with as many steps as the scan has time for;
-     pilingrue_whole      instead of both, where there is time for all steps at once.
+     pilingrue_whole      instead of both, where there is time for all steps at once;
+     pilingrue_reach      at any time, beside a trace or without one: the record of one surface.
 
    After each call ask for its verdict first, and only then for the outcome, counts[PILINGRUE_COUNTS_OUTCOME]:
 
@@ -195,13 +196,30 @@ pilingrue_verdict pilingrue_whole(const uint8_t *recipe, size_t recipe_bytes, do
                                   double dx, double dy, double dz, double index, double *buffer, size_t room,
                                   uint64_t counts[PILINGRUE_COUNTS], double numbers[PILINGRUE_NUMBERS]);
 
+/* Does the beam reach a surface? Its record, for a loader that need not wait for the rest. Surfaces count from 0. All
+   steps up to it are taken in this one call, which knows no state: a trace that is under way goes on as it was.
+
+   recipe     read only, up to the record of this surface: what stands behind it is neither checked nor traced, and
+              costs nothing
+   record     all its numbers are written, whatever is answered: +0.0 after a refusal
+
+   Checked in this order: that the number is below PILINGRUE_MOST_RECORDS (2); the records as in a start, up to and
+   with this surface's (10, 2, 3 or 4, with the place); that the recipe does not end before it (2); the beam as in a
+   start (2, 4). There is no 11 and no 12. Where the call is accepted the record is the one that a whole trace writes,
+   of the recipe or, if a start would refuse what stands behind, of the recipe cut there: a hit, what the surface
+   refused the beam with, or blank if the beam was lost before it. So ask for the verdict first, and then for the
+   record's status. */
+pilingrue_verdict pilingrue_reach(const uint8_t *recipe, size_t recipe_bytes, double ox, double oy, double oz,
+                                  double dx, double dy, double dz, double index, uint64_t surface,
+                                  double record[PILINGRUE_RECORD_NUMBERS]);
+
 /* What C must not do. The calls cannot see it, and nothing can be said of what happens then:
 
    - a null pointer, also where the length is 0: lend any valid address;
    - memory that is shorter than its length says, or an array that is shorter than declared here;
    - a buffer or an array that is not aligned as its type asks (the recipe's bytes may stand anywhere);
-   - recipe, buffer and the two arrays that overlap;
-   - another thread, interrupt or device that writes them during a call, or reads buffer and arrays before it has
+   - recipe, buffer, record and the two arrays that overlap;
+   - another thread, interrupt or device that writes them during a call, or reads what it writes before it has
      returned: a record is whole between calls. Copy it out for others then;
    - floating-point exceptions that are not masked, any of them: infinities and NaN come up on the way to an answer,
      and an unmasked invalid or overflow traps inside the call, also in a start that would refuse the number;

@@ -17,7 +17,7 @@ NEWTON = "crates/surfaces/src/newton.rt"
 REFUSAL = "crates/surfaces/src/refusal.rt"
 WRAPPER = "examples/rust/src/lib.rs"
 RAW = "examples/rust/src/raw.rs"
-NAMES = ("pilingrue_version", "pilingrue_start", "pilingrue_continue", "pilingrue_whole")
+NAMES = ("pilingrue_version", "pilingrue_start", "pilingrue_continue", "pilingrue_whole", "pilingrue_reach")
 
 # A file, a text that it has once, what stands there instead, and what the refusal has to say.
 CHANGES = {
@@ -36,6 +36,8 @@ CHANGES = {
     "one constant less": (HEADER, "#define PILINGRUE_MALFORMED 10", "", "PILINGRUE_MALFORMED is not"),
     "a wider allowance": (HEADER, "uint16_t allowed", "uint32_t allowed", "uint32_t allowed"),
     "a shorter length": (HEADER, "size_t recipe_bytes, double *", "uint32_t recipe_bytes, double *", "uint32_t recipe"),
+    "a narrower surface": (HEADER, "uint64_t surface", "uint32_t surface", "uint32_t surface"),
+    "a record that is longer": (HEADER, "record[PILINGRUE_RECORD_NUMBERS]", "record[PILINGRUE_COUNTS]", "[5] record"),
     "a recipe to write": (HEADER, "continue(const uint8_t", "continue(uint8_t", "(uint8_t * recipe"),
     "another name": (HEADER, "uint64_t pilingrue_version(", "uint64_t pilingrue_revision(", "pilingrue_revision is in"),
     "another answer": (HEADER, "uint64_t pilingrue_version(", "uint32_t pilingrue_version(", "uint32_t (void)"),

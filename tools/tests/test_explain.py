@@ -82,6 +82,45 @@ class Explain(Refusing, unittest.TestCase):
         behind = "The record of surface 3 is blank: nothing of it was measured.\n"
         self.assertTrue(text.endswith(f"{ended}{behind}\n{REFUSAL_FITS}"))
 
+    def test_one_surface(self):
+        told_all = ran("explain", LISTINGS / "doublet", "--recipe", SAMPLES / "doublet").out.decode().splitlines()
+        for number in range(4):
+            one = ran("explain", LISTINGS / "doublet", "--recipe", SAMPLES / "doublet", "--surface", str(number))
+            text = one.out.decode()
+            self.assertEqual(text.splitlines()[0], told_all[number])
+            self.assertEqual(text.count("hit at"), 1)
+            self.assertEqual([row.split()[0] for row in text.splitlines() if row.startswith(" ")], [str(number)] * 2)
+            self.assertTrue(text.endswith(f"\n\n{ALL_FIT}"))
+            self.assertNotIn("Done", text)
+
+    def test_one_surface_of_a_beam_that_was_lost(self):
+        lost = (LISTINGS / "lost").read_text()
+        ended = "blank. The beam ended at surface 2, with 6 (missed), and did not reach it.\n"
+        recipe = ("--recipe", SAMPLES / "lost.txt")
+        self.assertTrue(told(lost, "--surface", "2", *recipe).startswith("Surface 2 (conic): refused with 6, missed"))
+        self.assertTrue(told(lost, "--surface", "3", *recipe).startswith(f"Surface 3 (conic): {ended}"))
+        self.assertTrue(told(lost, "--surface", "9").startswith(f"Surface 9, if there is one: {ended}"))
+        running = f"end 0 0 {ZERO}\n"
+        yet = "Surface 0, if there is one: blank. Nothing of it is measured yet: 0 surfaces hit so far.\n"
+        self.assertTrue(told(running, "--surface", "0").startswith(yet))
+
+    def test_a_surface_that_there_is_not(self):
+        for options in ((), ("--recipe", SAMPLES / "doublet")):
+            done = ran("explain", LISTINGS / "doublet", "--surface", "4", *options)
+            self.assert_refused(done, f"{LISTINGS / 'doublet'}: there is no surface 4")
+        for word in ("-1", "1.0", "", "a"):
+            self.assertIn("is no number of a surface", ran("explain", f"--surface={word}").err)
+
+    def test_one_surface_of_a_refused_start(self):
+        text = told("refused 4 60\n", "--recipe", self.recipe(RAY + DARK), "--surface", "7")
+        self.assertTrue(text.startswith("Refused at the start with 4 "))
+        self.assertEqual(text, told("refused 4 60\n", "--recipe", self.recipe(RAY + DARK)))
+
+    def test_the_note_stands_with_the_first_surface(self):
+        noted = [ran("explain", LISTINGS / "pointer", "--recipe", SAMPLES / "pointer", "--surface", str(number)).out
+                 for number in (0, 1)]
+        self.assertEqual([b"The ray's direction has the length 2" in out for out in noted], [True, False])
+
     def test_a_lens_or_ray_that_was_changed(self):
         """The listing is of the lens before, and nothing of it is told or drawn."""
         for name, old, new, said in (

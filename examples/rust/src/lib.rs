@@ -82,7 +82,7 @@ pub struct State {
 }
 
 /// A surface's record: a point can only be had of a hit.
-#[derive(Clone, Copy, Debug)]
+#[derive(Clone, Copy, Debug, PartialEq)]
 pub enum Record {
     Blank,
     Hit { t: f64, point: [f64; 3], normal: [f64; 3], direction: [f64; 3], front: bool, steps: u16 },
@@ -100,6 +100,12 @@ pub struct Trace<'a> {
 /// The version of the archive.
 pub fn version() -> u64 {
     raw::pilingrue_version()
+}
+
+/// The record of one surface, from 0, for one that need not wait for the rest. A trace that is under way takes no part.
+pub fn reach(recipe: &[u8], beam: &Beam, surface: u64) -> Result<Record, Verdict> {
+    let mut record = [0.0; RECORD_NUMBERS];
+    raw::reach(recipe, beam, surface, &mut record).accepted().map(|()| Record::of(&record))
 }
 
 impl Record {

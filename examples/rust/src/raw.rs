@@ -1,6 +1,6 @@
 //! The archive's functions. All that is not safe stands here.
 
-use super::{ACCEPTED, Beam, COUNTS, NUMBERS, State};
+use super::{ACCEPTED, Beam, COUNTS, NUMBERS, RECORD_NUMBERS, State};
 
 /// 1 or the refusal, and the byte place of the record that was refused, else 0.
 #[repr(C)]
@@ -32,6 +32,11 @@ unsafe extern "C" {
     fn pilingrue_whole(
         recipe: *const u8, recipe_bytes: usize, ox: f64, oy: f64, oz: f64, dx: f64, dy: f64, dz: f64, index: f64,
         buffer: *mut f64, room: usize, counts: &mut [u64; COUNTS], numbers: &mut [f64; NUMBERS],
+    ) -> Verdict;
+
+    fn pilingrue_reach(
+        recipe: *const u8, recipe_bytes: usize, ox: f64, oy: f64, oz: f64, dx: f64, dy: f64, dz: f64, index: f64,
+        surface: u64, record: &mut [f64; RECORD_NUMBERS],
     ) -> Verdict;
 }
 
@@ -73,4 +78,10 @@ pub(crate) fn resume(recipe: &[u8], buffer: &mut [f64], state: &mut State, allow
     let (bytes, room) = (recipe.len(), buffer.len());
     let (counts, numbers) = (&mut state.counts, &mut state.numbers);
     unsafe { pilingrue_continue(recipe.as_ptr(), bytes, buffer.as_mut_ptr(), room, counts, numbers, allowed) }
+}
+
+pub(crate) fn reach(recipe: &[u8], beam: &Beam, surface: u64, record: &mut [f64; RECORD_NUMBERS]) -> Verdict {
+    let ([ox, oy, oz], [dx, dy, dz]) = (beam.origin, beam.direction);
+    let bytes = recipe.len();
+    unsafe { pilingrue_reach(recipe.as_ptr(), bytes, ox, oy, oz, dx, dy, dz, beam.index, surface, record) }
 }

@@ -7,7 +7,7 @@ mod slots;
 
 use pilingrue::{
     ACCEPTED, BAD_PARAMETER, Beam, COUNTS_OUTCOME, COUNTS_STEPS, COUNTS_SURFACE, DONE, MALFORMED, MOST_RECORDS,
-    RECORD_NUMBERS, RECORD_STEPS, RUNNING, Record, STATE_DOES_NOT_FIT, STEPS_BICONIC, VERSION, Verdict,
+    RECORD_NUMBERS, RECORD_STEPS, RUNNING, Record, STATE_DOES_NOT_FIT, STEPS_BICONIC, VERSION, Verdict, reach,
 };
 use slots::{CHANNEL_BYTES, Channel, Restored, SLOT_BYTES, Slots, checksum};
 use std::process::ExitCode;
@@ -390,6 +390,46 @@ impl Station {
         self.scans(1, ALL, ACCEPTED);
     }
 
+    /// The loader asks for one surface, and goes on once the beam is known to hit it.
+    fn ask(&mut self, x: f64, surface: usize, expected: u64) {
+        let answer = reach(&self.recipe, &self.beam_at(x), surface as u64);
+        let (refused, record, due) = match answer {
+            Ok(record) => (None, record, Record::at(&self.unbroken.buffer, surface)),
+            Err(verdict) => (Some(verdict.number), Record::Blank, Record::Blank),
+        };
+        let why = refused.map(|number| format!(", which is refused, {}", MEANING[number as usize]));
+        print!("the loader asks for surface {surface}{}", why.unwrap_or_default());
+        show_record(record);
+        println!(" | it {}", if matches!(record, Record::Hit { .. }) { "goes on" } else { "waits" });
+        self.promise(refused.unwrap_or(ACCEPTED) == expected, "what a question answers");
+        self.promise(record == due, "a surface's record is the unbroken trace's, and blank after a refusal");
+        self.promise(self.live.bytes() == self.last.bytes(), "a question changes nothing of a trace");
+    }
+
+    fn loader_asks(&mut self, x: f64) {
+        let (surface, at) = ((self.surfaces - 1) / 2, self.last_place() + 2);
+        self.change_lens("Lens 9: the loader asks in each scan for a surface, and waits for none behind it.");
+        self.start(x, ACCEPTED);
+        self.ask(x, surface, ACCEPTED);
+        for n in 1..ALL {
+            if self.live.state.counts[COUNTS_OUTCOME] != RUNNING {
+                break;
+            }
+            self.scans(n, n, ACCEPTED);
+            self.ask(x, surface, ACCEPTED);
+        }
+        self.flip_recipe(at, 255);
+        println!("the recipe's last record is not loaded yet");
+        self.ask(x, surface, ACCEPTED);
+        self.ask(x, self.surfaces - 1, MALFORMED);
+        self.flip_recipe(at, 255);
+        self.ask(x, self.surfaces, BAD_PARAMETER);
+        self.ask(f64::NAN, surface, BAD_PARAMETER);
+        println!("the beam is knocked 40 mm aside");
+        let _ = self.trace_unbroken(x + 40.0);
+        self.ask(x + 40.0, surface, ACCEPTED);
+    }
+
     fn work(&mut self, x: f64) {
         self.beam_is_there(x);
         self.beam_is_lost();
@@ -399,9 +439,10 @@ impl Station {
         self.recipe_goes_bad(x);
         self.beam_is_knocked_aside(x);
         self.program_is_exchanged(x);
+        self.loader_asks(x);
     }
 
-    /// A new lens is tried once as a whole.
+    /// A new lens is tried once as a whole. It has a surface before the last.
     fn suits(&mut self, x: f64) -> bool {
         let answer = self.trace_unbroken(x);
         let counts = self.unbroken.state.counts;
@@ -410,7 +451,7 @@ impl Station {
         if number != DONE {
             eprintln!("station: {}, place {place}", MEANING[number as usize]);
         }
-        number == DONE && self.surfaces > 0
+        number == DONE && self.surfaces > 1
     }
 }
 

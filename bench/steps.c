@@ -121,6 +121,12 @@ LENT static pilingrue_verdict trap_continue(struct trace *t, uint16_t allowed) {
     return v;
 }
 
+LENT static void trap_reach(struct trace *t, size_t bytes, const double *b, uint64_t surface) {
+    TRAP_FROM_HERE();
+    pilingrue_reach(t->recipe, bytes, b[0], b[1], b[2], b[3], b[4], b[5], b[6], surface, t->buffer);
+    TRAP_TO_HERE();
+}
+
 /* 0 if the call is refused. */
 static uint64_t count_continue(struct trace *t, uint16_t allowed) {
     seen = 0;
@@ -393,6 +399,27 @@ static void count_fixed_parts(void) {
         if (i == 0) cost.start = seen - checks(&t);
         expect(seen == cost.start + checks(&t), "a start costs its fixed part and its records' checks");
         expect(blanked == 8 * PILINGRUE_RECORD_NUMBERS * (size_t)n, "a start blanks the room and no more");
+    }
+}
+
+static uint64_t count_reach(struct trace *t, size_t bytes, const double *b, uint64_t surface) {
+    seen = 0;
+    trap_reach(t, bytes, b, surface);
+    return seen;
+}
+
+/* A question for a surface costs the same with a byte behind its record as with all the records there. */
+static void hold_questions(void) {
+    static struct trace t;
+    for (int i = 0; i < 40; i++) {
+        struct input x = drawn(0);
+        size_t end = 0;
+        int surface = below(24), n = i ? surface + 2 + below(24) : PILINGRUE_MOST_RECORDS;
+        mix(&t, n);
+        for (int k = 0; k <= surface; k++) end += length_at(t.recipe + end);
+        expect(count_reach(&t, t.bytes, x.state + 1, (uint64_t)surface) ==
+                   count_reach(&t, end + 1, x.state + 1, (uint64_t)surface),
+               "a question costs the same whatever stands behind its surface");
     }
 }
 
@@ -734,6 +761,7 @@ static int print_allowance(const char *path, const char *file, double time) {
 /* The dearest of the file and of a short search, by both counters; and the samples held against them. */
 static int table(int times, char **samples) {
     count_fixed_parts();
+    hold_questions();
     begin_all();
     climb_all(times);
     for (int slot = 0; slot < SLOTS; slot++)

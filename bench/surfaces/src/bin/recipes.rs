@@ -17,7 +17,7 @@ use conic::{ConicSurface, intersect_conic};
 use error::OpticsError;
 use pilingrue::{
     BLANK, Beam, COUNTS, HIT, KIND_CONIC, KIND_EVEN_ASPHERE, KIND_MIRROR, MOST_RECORDS, NUMBERS, RECORD_NUMBERS,
-    RECORD_STATUS, RECORD_STEPS, State, Trace,
+    RECORD_STATUS, RECORD_STEPS, Record, State, Trace, reach,
 };
 use rows::{Numbers, Sequence, least, numbers, ray, row, wanted};
 use snell::{reflect, snell_refract};
@@ -178,6 +178,18 @@ fn by_records(conics: &[u8], length: usize) {
     });
 }
 
+/// One question for the eighth surface, on conics that go on behind it.
+fn by_records_behind(conics: &[u8], length: usize) {
+    const RECORDS: [usize; 3] = [8, 64, MOST_RECORDS];
+    growth("one question for surface 7, by records", RECORDS, [512; 3], |i, zero| {
+        let beam = Beam { origin: [4.0 + zero, 2.0, -5.0], direction: [0.0, 0.0, 1.0], index: 1.0 };
+        match reach(&conics[..length * RECORDS[i]], &beam, 7) {
+            Ok(Record::Hit { t, .. }) => t,
+            other => panic!("the beam hits surface 7, and not {other:?}"),
+        }
+    });
+}
+
 /// A recipe of one even asphere with the first of these coefficients.
 fn even(count: usize) -> Vec<u8> {
     const COEFFICIENTS: [f64; 8] = [1e-4, -1e-6, 1e-8, -1e-10, 1e-12, -1e-14, 1e-16, -1e-18];
@@ -231,6 +243,7 @@ fn main() {
     whole("512 conics", &relay, -5.0, 8.0, 0.02);
     if wanted().is_none() {
         by_records(&relay, relay.len() / MOST_RECORDS);
+        by_records_behind(&relay, relay.len() / MOST_RECORDS);
         by_coefficients();
         by_passes();
     }

@@ -2,13 +2,12 @@
 -- nothing.
 use Prim.Native.Nat.{ℕ, zero, suc, _≤_}
 use native.Mathlib.Omega.{arith}
-use native.Mathlib.Nat.{not-suc-le-zero}
-use mathlib.Core.Path.{_≡_, refl, sym, ap}
+use mathlib.Core.Path.{_≡_, refl}
 use mathlib.Core.Bool.{Bool, true, false}
 use mathlib.Core.List.{List, [], _∷_}
 use lib.ListN.{length, take}
-use lib.Seq.{length-take-le, take-nil}
-use Rattle.recipe.specs.Scan.{Item, Scan, items, before, scan, itemAt}
+use lib.Seq.{length-take-le}
+use Rattle.recipe.specs.Scan.{Item, items, scan, itemAt}
 use Rattle.recipe.proofs.Records.{good-inside}
 use Rattle.recipe.proofs.Scans.{Scanned, over, enough, passes, scanned, scan-end, scan-record}
 use Rattle.recipe.proofs.Length.{good-take}

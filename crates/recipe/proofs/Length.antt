@@ -1,8 +1,9 @@
--- A record is read within the longest recipe, so that all records are read from its first bytes. Assumes nothing.
+-- A good record is read from any bytes that have its end. All records are read within the longest recipe, and so from
+-- its first bytes. Assumes nothing.
 use Prim.Native.Nat.{ℕ, zero, suc, _+_, _*_, _/_, _%_, _≤_, _<_}
 use native.Mathlib.Omega.{arith}
 use mathlib.Core.Path.{_≡_, refl, sym, _∙_}
-use mathlib.Core.Bool.{Bool, true, false, _&&_, and-false}
+use mathlib.Core.Bool.{Bool, true, false, and-false}
 use mathlib.Core.List.{List}
 use lib.ListN.{length, take}
 use lib.Seq.{getD-take, length-take-le}

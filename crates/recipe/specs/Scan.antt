@@ -1,4 +1,5 @@
--- A whole recipe: the list of its surfaces, or its first refusal and where; what a check says of it. Definitions only.
+-- A recipe's surfaces, all or the first ones, or its first refusal and where; what a check says of them. Definitions
+-- only.
 use Prim.Native.Nat.{ℕ, zero, suc, _+_}
 use mathlib.Core.Bool.{Bool, _&&_}
 use mathlib.Core.List.{List, [], _∷_}

@@ -24,7 +24,8 @@ use Rattle.trace.specs.declared.state.State.{State}
 use Rattle.trace.specs.Leg.{width}
 use Rattle.trace.specs.State.{held, advance, fitsOf}
 use Rattle.trace.specs.Run.{mostRecords, Reply, reply, recipeOf, itemsOf, blank, refusedAnswer, refusedReply}
-use Rattle.trace.specs.Run.{rayAdmission, admission, admitted, startAt, startOf, accept, continueOn, continueOf, wholeOf}
+use Rattle.trace.specs.Run.{rayAdmission, admission, admitted, startAt, startOf, accept, continueOn}
+use Rattle.trace.specs.Run.{continueOf, wholeOf}
 use Rattle.trace.specs.Wanted.{refusedReach, upTo, reachOn, reachOf}
 use Rattle.trace.specs.File.{startFileOf}
 use Rattle.trace.specs.Demand1.{GoodUpTo, none, more, Answers, AnswersOne, Blanked, Unchanged, Refused12}

@@ -1,9 +1,9 @@
 -- What a walk keeps: of a whole result buffer, the records from a surface on. Assumes nothing.
 use Prim.Native.Nat.{ℕ, _+_, _-_, _*_, _≤_, _<_}
-use mathlib.Core.Path.{_≡_, refl, sym, _∙_, ap, subst}
+use mathlib.Core.Path.{_≡_, refl, sym, _∙_, ap}
 use mathlib.Core.List.{List, _++_}
 use native.Mathlib.Omega.{arith}
-use lib.ListN.{length, drop, length-append, length-replicate, length-drop}
+use lib.ListN.{length, length-append, length-replicate, length-drop}
 use lib.Seq.{sets, drop-at}
 use lib.Ieee.{Float}
 use Rattle.numbers.specs.Arithmetic.{0f}

@@ -15,6 +15,8 @@ pub mod Demand1
 pub mod Demand3
 mod FirstCrossing
 mod Wholes
+mod Rows
+mod Reaches
 mod OneSurface
 pub mod Files
 pub mod Long

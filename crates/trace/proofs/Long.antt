@@ -29,7 +29,9 @@ module _ (b : List ℕ) (long : longest < length b) (base : ℕ) (ray : Ray) (in
 
   off : startAt base b ray index z .answer .number ≢ 1
   unfolding startAt refusedAnswer
-  off = let r = too-long b mostRecords long in rw (r .one) (not-1 (subst Sound (r .one) (scan-sound true b mostRecords 0)))
+  off =
+      let r = too-long b mostRecords long in
+      rw (r .one) (not-1 (subst Sound (r .one) (scan-sound true b mostRecords 0)))
 
 drop-take : (k n : ℕ) (l : List ℕ) → drop k (take (k + n) l) ≡ take n (drop k l)
 drop-take zero n l = rw (zero-add n)

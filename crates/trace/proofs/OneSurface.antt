@@ -1,255 +1,31 @@
--- One surface's record: what its question answers, beside the full trace and the cut recipe. Assumes nothing.
-use Prim.Native.Nat.{ℕ, zero, suc, _+_, _-_, _*_, _≤_, _<_, _^_, zero-le}
-use mathlib.Core.Path.{_≡_, refl, sym, _∙_, ap, subst}
-use mathlib.Core.Logic.{_≢_}
-use mathlib.Core.List.{List, [], _∷_, _++_}
+-- One surface's record beside the full trace, and beside the cut recipe. Assumes nothing.
+use Prim.Native.Nat.{ℕ, suc, _*_, _≤_, _<_}
+use mathlib.Core.Path.{_≡_, refl, sym, _∙_, ap}
+use mathlib.Core.List.{List}
 use mathlib.Core.Bool.{Bool, true, false}
 use native.Mathlib.Omega.{arith}
-use native.Mathlib.Nat.{not-suc-le-zero, sub-zero}
-use native.Mathlib.Numerals.{add-one}
-use lib.ListN.{length, take, drop, replicate, length-replicate, replicate-append-replicate, length-append}
-use lib.Seq.{take-all, take-at, drop-append-add, length-take-le}
+use lib.ListN.{length, take, length-replicate}
+use lib.Seq.{length-take-le}
 use lib.Dec.{eqb, ltb, leb}
 use lib.Ieee.{Float}
-use borrow.Author.Tests.{eq-eqb, ne-eqb, lt-ltb, ltb-true, le-leb, lt-leb, leb-true, leb-false, eqb-true, eqb-false}
+use borrow.Author.Tests.{ltb-true, lt-leb, leb-false, eqb-true, eqb-false}
 use Rattle.numbers.specs.Arithmetic.{if_then_else_, 0f}
-use Rattle.numbers.proofs.Choice.{either, through}
-use Rattle.surfaces.specs.Refusal.{Ended, Told, done}
-use Rattle.surfaces.specs.Surface.{surfaceEnd}
 use Rattle.surfaces.specs.declared.types.Ray.{Ray}
-use Rattle.recipe.specs.declared.scan.Checked.{Checked}
-use Rattle.recipe.specs.Scan.{Item, Scan, refused, items, itemsIn, itemAt, scan, checkOf, nothing}
+use Rattle.recipe.specs.Scan.{Item, Scan, refused, items}
 use Rattle.recipe.proofs.Records.{not-1}
 use Rattle.recipe.proofs.Scans.{scan-sound, scan-few}
-use Rattle.recipe.proofs.Notes.{notes-end}
-use Rattle.recipe.proofs.Chain.{Chain, chain-scan}
-use Rattle.recipe.proofs.Cuts.{endFrom, end-last, cut-chain, cut-within, scan-first}
-use Rattle.trace.specs.declared.leg.Beam.{Beam}
-use Rattle.trace.specs.declared.leg.Leg.{Leg}
-use Rattle.trace.specs.declared.state.State.{State}
+use Rattle.recipe.proofs.Cuts.{scan-first}
 use Rattle.trace.specs.declared.wanted.Reached.{Reached}
-use Rattle.trace.specs.Leg.{legOf, beamAfter, rowOf, width}
-use Rattle.trace.specs.Unbroken.{Mark, Trace, unbroken, rows, padded}
-use Rattle.trace.specs.State.{Held, held, standing, advance}
+use Rattle.trace.specs.Leg.{width}
+use Rattle.trace.specs.Unbroken.{Trace, unbroken}
 use Rattle.trace.specs.Run.{mostRecords, Reply, reply, recipeOf, itemsOf, opticsOf, blank, beamOf, firstState}
 use Rattle.trace.specs.Run.{rayAdmission, startAt, startOf, wholeOf}
-use Rattle.trace.specs.Wanted.{noRow, refusedReach, rowAt, upTo, reachOn, reachOf}
-use Rattle.trace.specs.Parts.{Ready, blanks, lentFrom}
-use Rattle.trace.specs.OneSurface.{recordIn, cutOn, cut, InFull, OneSurface}
-use Rattle.trace.proofs.Lists.{take-replicate, drop-replicate}
-use Rattle.trace.proofs.Closed.{row-width, padded-more}
-use Rattle.trace.proofs.Starts.{Finding, finds-bad, finds-good, found, Admitted, admitted-is, ray-good, good-ray}
+use Rattle.trace.specs.Wanted.{refusedReach, rowAt, upTo, reachOn, reachOf}
+use Rattle.trace.specs.OneSurface.{cutOn, cut, InFull, OneSurface}
+use Rattle.trace.proofs.Starts.{Admitted, admitted-is, ray-good, good-ray}
 use Rattle.trace.proofs.Demand3.{admitted-start}
-use Rattle.trace.proofs.Wholes.{first-ready, ended-buffer}
-
--- the records of a trace
-abbrev Wide : List Mark → Type 0
-Wide [] = Unit {0}
-Wide (m ∷ l) = (length (m .row) ≡ width) × Wide l
-
-wide : (k : ℕ) (l : List Item) (b : Beam) → Wide (unbroken k (opticsOf l) b .marks)
-unfolding unbroken
-wide k [] b = tt
-wide k (i ∷ l) b =
-    let e = surfaceEnd (i .optic .surface) (b .ray) in
-    let x = legOf k (i .optic) b (e .answer) in
-    either (λ (u : Trace). Wide (u .marks)) (done x) _ _
-    (row-width x (e .passes), wide (k + 1) l (beamAfter (i .optic) b (x .value))) (row-width x (e .passes), tt)
-
--- stand one behind the other
-record-there : (l : List Mark) → Wide l → (k size : ℕ) → width * k + width ≤ size
-    → recordIn (padded size (rows l)) k ≡ rowAt l k
-unfolding padded rows
-record-there [] w k size h =
-    rw (sub-zero size, drop-replicate (width * k) size 0f) (take-replicate width (size - width * k) 0f (omega arith))
-record-there (m ∷ l) w zero size h =
-    ap (λ (z : List Float). take width z) (sym (padded-more (m .row) (rows l) size (w .0)))
-    ∙ take-at (m .row) (padded (size - width) (rows l)) width (w .0)
-record-there (m ∷ l) w (suc k) size h =
-    let at : width * suc k ≡ length (m .row) + width * k = omega (arith, w .0) in
-    ap (λ (z : List Float). recordIn z (suc k)) (sym (padded-more (m .row) (rows l) size (w .0)))
-    ∙ rw (at, drop-append-add (m .row) (padded (size - width) (rows l)) (width * k))
-    (record-there l (w .1) k (size - width) (omega arith))
-
--- a surface's record is the first of those from it on
-module _ (n : ℕ) (i : Item) (l : List Item) (b : Beam) where
-  abbrev end : Ended
-  end = surfaceEnd (i .optic .surface) (b .ray)
-
-  abbrev x : Told Leg
-  x = legOf n (i .optic) b (end .answer)
-
-  abbrev later : Trace
-  later = unbroken (n + 1) (opticsOf l) (beamAfter (i .optic) b (x .value))
-
-  row-first : rowAt (unbroken n (opticsOf (i ∷ l)) b .marks) 0 ≡ rowOf x (end .passes)
-  unfolding unbroken
-  row-first = either (λ (u : Trace). rowAt (u .marks) 0 ≡ rowOf x (end .passes)) (done x) _ _ refl refl
-
-  row-later : (k : ℕ)
-      → rowAt (unbroken n (opticsOf (i ∷ l)) b .marks) (suc k) ≡ (if done x then rowAt (later .marks) k else noRow)
-  unfolding unbroken
-  row-later k = through (λ (u : Trace). rowAt (u .marks) (suc k)) (done x) _ _
-
-  hits-here : unbroken n (opticsOf (i ∷ l)) b .hits ≡ (if done x then suc (later .hits) else 0)
-  unfolding unbroken
-  hits-here = through (λ (u : Trace). u .hits) (done x) _ _
-
--- and those behind it are of no matter
-same-row : (n : ℕ) (l : List Item) (b : Beam) (k : ℕ)
-    → rowAt (unbroken n (opticsOf (take (suc k) l)) b .marks) k ≡ rowAt (unbroken n (opticsOf l) b .marks) k
-same-row n [] b k = refl
-same-row n (i ∷ l) b zero = row-first n i [] b ∙ sym (row-first n i l b)
-same-row n (i ∷ l) b (suc k) =
-    row-later n i (take (suc k) l) b k
-    ∙ ap (λ (r : List Float). if done (x n i l b) then r else noRow) (same-row (n + 1) l _ k)
-    ∙ sym (row-later n i l b k)
-
--- behind the surface where the beam ended all are blank
-blank-behind : (n : ℕ) (l : List Item) (b : Beam) (k : ℕ) → unbroken n (opticsOf l) b .hits < k
-    → rowAt (unbroken n (opticsOf l) b .marks) k ≡ noRow
-unfolding unbroken
-blank-behind n [] b k h = refl
-blank-behind n (i ∷ l) b zero h = absurd (not-suc-le-zero h)
-blank-behind n (i ∷ l) b (suc k) h =
-    row-later n i l b k ∙ by (done (x n i l b)) (hits-here n i l b) (blank-behind (n + 1) l _ k)
-  where
-    by : (d : Bool) → unbroken n (opticsOf (i ∷ l)) b .hits ≡ (if d then suc (later n i l b .hits) else 0)
-        → (later n i l b .hits < k → rowAt (later n i l b .marks) k ≡ noRow)
-        → (if d then rowAt (later n i l b .marks) k else noRow) ≡ noRow
-    by true e rest = rest (omega (arith, e, h))
-    by false e rest = refl
-
--- The records up to k, if there are so many, are all of the recipe cut after them.
-module _ (b : List ℕ) (k : ℕ) (l : List Item) (e : upTo b k ≡ items l) (n : length l ≡ suc k) where
-  abbrev front : List ℕ
-  front = take (endFrom 0 l) b
-
-  cut-is : cut b k ≡ front
-  unfolding cut
-  cut-is = rw (e, lt-ltb k (length l) (omega arith), end-last 0 l k n)
-
-  cut-scanned : (all : Bool) (left : ℕ) → suc k ≤ left → scan all front left 0 ≡ items l
-  cut-scanned all left h = chain-scan all front left (cut-chain b false (suc k) l e) (omega arith)
-
--- a number that its check lets through
-low-counted : (b : List ℕ) (k : ℕ) {l : List Item} → upTo b k ≡ items l → k < length l → length l ≡ suc k
-low-counted b k e h = let few = scan-few false b (suc k) 0 in omega (arith, rw e at few)
-
--- what passes to a walk: surface k's record is all that it keeps
-module _ (b : List ℕ) (ray : Ray) (index : Float) (k : ℕ) (low : k < mostRecords) (l : List Item)
-    (e : upTo b k ≡ items l) (n : length l ≡ suc k) (r : rayAdmission ray index ≡ 1) where
-  abbrev first : State
-  first = standing 0 0 (beamOf ray index) 0 0
-
-  abbrev z : List Float
-  z = blanks k ++ noRow
-
-  long : length z ≡ width * k + width
-  long = length-append (blanks k) noRow ∙ rw (length-replicate (width * k) 0f)
-
-  all-blank : blank z ≡ z
-  all-blank = rw long (sym (replicate-append-replicate (width * k) width 0f))
-
-  good : recipeOf (front b k l e n) ≡ items l
-  good = cut-scanned b k l e n true mostRecords (omega arith)
-
-  all-items : itemsOf (front b k l e n) ≡ l
-  all-items = ap itemsIn good
-
-  admitted : Admitted (recipeOf (front b k l e n)) ray index (blank z)
-  admitted =
-      record {
-        good = good ∙ ap items (sym all-items);
-        beam = ray-good ray index r;
-        room = rw (all-items, n, all-blank, long) (omega arith);
-      }
-
-  first-is : firstState (length (itemsOf (front b k l e n))) (beamOf ray index) ≡ first
-  first-is = rw (all-items, n, ne-eqb 0 (suc k) (λ q. omega arith))
-
-  reach-ready : Ready (front b k l e n) (width * k + width) (suc k) first
-  reach-ready = rw (first-is, all-items, n, all-blank, long) at (first-ready (front b k l e n) ray index z admitted)
-
-  reach-row : (s : State) (v : List Float) → length v ≡ width
-      → held s v ≡ lentFrom k (advance (itemsOf (front b k l e n)) 65535 (held first z))
-      → v ≡ rowAt (unbroken 0 (opticsOf l) (beamOf ray index) .marks) k
-  reach-row s v wide-v q =
-      let ends = rw (first-is, all-blank) at (ended-buffer (front b k l e n) ray index z admitted) in
-      sym (take-all width v (omega arith))
-      ∙ ap (λ (h : Held). take width (h .buffer)) q
-      ∙ ap (λ (w : List Float). recordIn w k) ends
-      ∙ rw (all-items, long)
-      (record-there _ (wide 0 l (beamOf ray index)) k (width * k + width) (omega arith))
-
--- The answer, by what a check of the records up to k says.
-module _ (b : List ℕ) (ray : Ray) (index : Float) (k : ℕ) (low : k < mostRecords)
-    (c : Checked) (checked : c ≡ checkOf b (k + 1) false k) where
-  abbrev upto : List Item
-  upto = itemsIn (upTo b k)
-
-  finds : Finding k c (upTo b k)
-  unfolding checkOf
-  finds = found k c (upTo b k) (scan-sound false b (suc k) 0) (rw (add-one k) at checked)
-
-  past : (r : Reached) → r ≡ reachOn (upTo b k) ray index k → r ≡ reachOf b ray index k
-  unfolding reachOf
-  past r e = rw (lt-leb mostRecords k low) e
-
-  bad : (s : Scan) → Finding k c s → c .number ≢ 1 → refusedReach (c .number) (c .place) ≡ reachOn s ray index k
-  bad (refused n p) (finds-bad e f g) h = rw (e, f)
-  bad (items l) (finds-good e n m) h = absurd (h n)
-
-  pub reach-bad : c .number ≢ 1 → refusedReach (c .number) (c .place) ≡ reachOf b ray index k
-  reach-bad h = past _ (bad (upTo b k) finds h)
-
-  module _ (h : c .number ≡ 1) where
-    noted : (s : Scan) → Finding k c s
-        → (s ≡ items (itemsIn s)) × (c .count ≡ length (itemsIn s)) × (c .end ≡ endFrom 0 (itemsIn s))
-    noted (refused n p) (finds-bad e f g) = absurd (g h)
-    noted (items l) (finds-good e n m) = (refl, m, ap (λ (d : Checked). d .end) e ∙ notes-end k nothing l)
-
-    past-records : (r : Reached) → r ≡ reachOn (items upto) ray index k → r ≡ reachOf b ray index k
-    past-records r e =
-        past r (e ∙ ap (λ (s : Scan). reachOn s ray index k) (sym (noted (upTo b k) finds .0)))
-
-    pub reach-short : c .count ≤ k → refusedReach 2 0 ≡ reachOf b ray index k
-    reach-short i =
-        let counted = noted (upTo b k) finds .1 in
-        past-records _ (rw (le-leb (length upto) k (omega arith)))
-
-    module _ (i : k < c .count) {n : ℕ} (ray-is : n ≡ rayAdmission ray index) where
-      there : leb (length upto) k ≡ false
-      there = let counted = noted (upTo b k) finds .1 in lt-leb (length upto) k (omega arith)
-
-      pub reach-ray : n ≢ 1 → refusedReach n 0 ≡ reachOf b ray index k
-      reach-ray g = past-records _ (rw (there, ← ray-is, ne-eqb n 1 g))
-
-      module _ (g : n ≡ 1) where
-        exactly : length upto ≡ suc k
-        exactly =
-            let counted = noted (upTo b k) finds .1 in
-            low-counted b k (noted (upTo b k) finds .0) (omega arith)
-
-        pub cut-inside : c .end ≤ length b
-        cut-inside =
-            let end = noted (upTo b k) finds .2 in
-            omega (arith, cut-within b false (suc k) upto (noted (upTo b k) finds .0))
-
-        pub walk-ready : Ready (take (c .end) b) (width * k + width) (c .count) (standing 0 0 (beamOf ray index) 0 0)
-        walk-ready =
-            rw (noted (upTo b k) finds .1, noted (upTo b k) finds .2, exactly)
-            (reach-ready b ray index k low upto (noted (upTo b k) finds .0) exactly (sym ray-is ∙ g))
-
-        pub reach-done : (s : State) (v : List Float) → length v ≡ width
-            → held s v ≡ lentFrom k
-            (advance (itemsOf (take (c .end) b)) 65535 (held (standing 0 0 (beamOf ray index) 0 0) (blanks k ++ noRow)))
-            → record { number = 1; place = 0; row = v } ≡ reachOf b ray index k
-        reach-done s v w q =
-            let row =
-            reach-row b ray index k low upto (noted (upTo b k) finds .0) exactly (sym ray-is ∙ g) s v w
-            (rw (noted (upTo b k) finds .2) at q) in
-            past-records _ (rw (there, ← ray-is, g, row))
+use Rattle.trace.proofs.Rows.{wide, record-there, same-row, blank-behind}
+use Rattle.trace.proofs.Reaches.{cut-is, cut-scanned, low-counted}
 
 -- beside the full trace
 module _ (b : List ℕ) (ray : Ray) (index : Float) (z : List Float) (k : ℕ)

@@ -353,10 +353,10 @@ cases =
     1 ∷ 12 ∷ 12 ∷ 12 ∷ 12 ∷ []) ∷ []
 
 pub each-case : agree cases ≡ true
-unfolding cases lens folded pointed narrow on asked ending answered bits _over_ bytes patterns beamRecord planeRecord decimal
-    magnitude negative larger clamped infinite root neg round add sub mul div lt le eq isNan ofBits toBits ofInt dotOf
-    vectorLength overOf distance pointAt allFinite rayFinite everyFinite turnedIf negatedIf mirrored reflected bent
-    refracted landedWithin planeCrossing conicCrossing normalAt arrivedAt movedBy passAt vertexPlane passesFrom
+unfolding cases lens folded pointed narrow on asked ending answered bits _over_ bytes patterns beamRecord planeRecord
+    decimal magnitude negative larger clamped infinite root neg round add sub mul div lt le eq isNan ofBits toBits ofInt
+    dotOf vectorLength overOf distance pointAt allFinite rayFinite everyFinite turnedIf negatedIf mirrored reflected
+    bent refracted landedWithin planeCrossing conicCrossing normalAt arrivedAt movedBy passAt vertexPlane passesFrom
     newtonEnd passStart nextPass limitedPass powerSumFrom slopeSumFrom baseSag baseSlope evenSag evenSlope radialSlopes
     evenSlopes lengthOf facingOf normalOf evenFacing evenNormal oddSag oddBaseSlope oddSlope oddOnAxis oddSlopesAt
     oddNormal oddSlopes passAnswer surfaceEnd limitOf surfaceNormal onwardFrom turnAnswer u16At u32At u64At numberAt

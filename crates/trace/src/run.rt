@@ -232,8 +232,8 @@ pub fn start(recipe: &[u8], ray: Ray, index: f64, buf: &mut [f64]) -> Answer
         ≡ startOf (now (recipe .entry)) ray index (now (buf .entry)) ⌝ }
 {
     blank_out(buf);
-    let c = check(recipe, MOST_RECORDS, true, 0);
-    begin(c, 0, ray, index, buf.len())
+    let checked = check(recipe, MOST_RECORDS, true, 0);
+    begin(checked, 0, ray, index, buf.len())
 }
 
 // Start, then all steps at once.

@@ -121,6 +121,6 @@ unfolding cases recordOf offAxis pointer pane bowl inverted noIndex _&_ lined of
     evenFacing evenNormal surfaceEnd surfaceNormal onwardFrom turnAnswer u16At u32At u64At numberAt numbersAt slotAt
     lengthFits formedAt shapedAt semiSlot kindOf oddCount evenCount coefficientsAt opticAt negativeSemi recordAt scan
     isSource vectorAt sourceOf glyph hexText decimalText boundaryOf share legFinite legOf beamAfter hitRow refusalRow
-    rowOf unbroken total refusedAnswer rayAdmission admission startAt startFileOf traceOf bytes patterns beamRecord planeRecord ascii
-    line recordLine recordLines endLine refusedLine traceLines listing
+    rowOf unbroken total refusedAnswer rayAdmission admission startAt startFileOf traceOf bytes patterns beamRecord
+    planeRecord ascii line recordLine recordLines endLine refusedLine traceLines listing
 each-case = refl

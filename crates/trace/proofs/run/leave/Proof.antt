@@ -1,5 +1,4 @@
 -- The record and the state by the calls, whatever stands before what is kept. Assumes nothing.
-use mathlib.Core.Path.{_≡_}
 use borrow.Author.Needs.{needs}
 use Rattle.trace.specs.State.{surfaceLeft}
 use Rattle.trace.proofs.run.leave.Statement.{statement}

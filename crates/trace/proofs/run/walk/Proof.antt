@@ -173,5 +173,7 @@ walk-spec =
     (λ c.
     let k = c .before .before .before .surfaces .inv in
     keeps-is _ _ _ _ _ _ k _ _ (runs-ended _ _ (k .runs) (c .if1 .taken)))
-    (λ c. keeps-long _ _ _ _ _ _ (surface-of (chained (c .before .before .before .before .before .before)) .surfaces .inv))
+    (λ c.
+    let p = chained (c .before .before .before .before .before .before) in
+    keeps-long _ _ _ _ _ _ (surface-of p .surfaces .inv))
     returns-3)

@@ -49,7 +49,8 @@ extern "C" {
 #define PILINGRUE_HIT 1                    /* status: the beam hit the surface and goes on */
 #define PILINGRUE_DONE 1                   /* outcome: the beam hit all surfaces */
 #define PILINGRUE_ACCEPTED 1               /* answer: the call was accepted. The outcome says where the beam went */
-#define PILINGRUE_BAD_PARAMETER 2          /* a number is not finite, or a negative semi-diameter but for a conic's */
+#define PILINGRUE_BAD_PARAMETER 2          /* a number is not finite, a semi-diameter negative, but for a conic's, or no
+                                              surface has the number that is asked for */
 #define PILINGRUE_NEGATIVE_SEMI_DIAMETER 3 /* negative semi-diameter of a conic */
 #define PILINGRUE_SINGULAR 4               /* no direction or slope can be computed, or an index is not above 0 */
 #define PILINGRUE_OUTSIDE_DOMAIN 5         /* outside the surface's domain */

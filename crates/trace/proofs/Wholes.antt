@@ -50,7 +50,7 @@ module _ (y : List ℕ) (ray : Ray) (index : Float) (z : List Float) (a : Admitt
   enough : total (u .marks) ≤ 65535
   enough = omega (arith, total-limit 0 (itemsOf y) (beamOf ray index), limits-few y)
 
-  pub ended-state : ended .state
+  ended-state : ended .state
       ≡ standing (u .hits) (placeOf (itemsOf y) (length y) (u .hits)) (u .beam) (total (u .marks)) (u .outcome)
   ended-state =
       shown y ray index z a 65535 .state ∙ at-end (itemsOf y) (length y) 0 0 65535 (beamOf ray index) enough

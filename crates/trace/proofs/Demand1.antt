@@ -32,12 +32,15 @@ use Rattle.trace.specs.Demand1.{GoodUpTo, none, more, Answers, AnswersOn
 use Rattle.trace.specs.Demand1.{Unfit, Demand1}
 use Rattle.trace.proofs.Unfits.{unfit, fits-all}
 
--- a start's numbers, and a continuation's
+-- a start's numbers, a continuation's, and those of a question for one surface
 abbrev begun : List ℕ
 begun = 1 ∷ 2 ∷ 3 ∷ 4 ∷ 10 ∷ 11 ∷ []
 
 abbrev resumed : List ℕ
 resumed = 1 ∷ 2 ∷ 3 ∷ 4 ∷ 10 ∷ 11 ∷ 12 ∷ []
+
+abbrev asked : List ℕ
+asked = 1 ∷ 2 ∷ 3 ∷ 4 ∷ 10 ∷ []
 
 -- the refused record stands where the good ones before it end
 leads : {b : List ℕ} {all : Bool} {left at n p : ℕ} → GoodUpTo b at → Scanned b all left at (refused n p)
@@ -139,14 +142,14 @@ module _ (f : List ℕ) (z : List Float) where
 -- one surface
 module _ (b : List ℕ) (ray : Ray) (index : Float) (k : ℕ) where
   -- refused with a number of its own, and no place
-  unplaced : (n : ℕ) → oneOf (1 ∷ 2 ∷ 3 ∷ 4 ∷ 10 ∷ []) n ≡ true → AnswersOne b (refusedReach n 0)
+  unplaced : (n : ℕ) → oneOf asked n ≡ true → AnswersOne b (refusedReach n 0)
   unplaced n h = record { number = h; place = none; refused = λ _. refl }
 
   one-by : (s : Scan) → Sound s → Scanned b false (suc k) 0 s → AnswersOne b (reachOn s ray index k)
   unfolding oneOf
   one-by (refused n p) h d =
       record {
-        number = each (oneOf (1 ∷ 2 ∷ 3 ∷ 4 ∷ 10 ∷ [])) (2 ∷ 3 ∷ 4 ∷ 10 ∷ []) n refl h;
+        number = each (oneOf asked) (2 ∷ 3 ∷ 4 ∷ 10 ∷ []) n refl h;
         place = leads none d;
         refused = λ _. refl;
       }
@@ -155,7 +158,7 @@ module _ (b : List ℕ) (ray : Ray) (index : Float) (k : ℕ) where
       either (AnswersOne b) (leb (length l) k) _ _ (unplaced 2 refl)
       (either (AnswersOne b) (eqb n 1) _ _
       (record { number = refl; place = none; refused = λ h. absurd (h refl) })
-      (unplaced n (each (oneOf (1 ∷ 2 ∷ 3 ∷ 4 ∷ 10 ∷ [])) (1 ∷ 2 ∷ 4 ∷ []) n refl (ray-number ray index))))
+      (unplaced n (each (oneOf asked) (1 ∷ 2 ∷ 4 ∷ []) n refl (ray-number ray index))))
 
   one : AnswersOne b (reachOf b ray index k)
   unfolding reachOf oneOf

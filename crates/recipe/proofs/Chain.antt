@@ -12,22 +12,14 @@ use Rattle.recipe.specs.declared.record.Optic.{Optic}
 use Rattle.recipe.specs.Record.{good, recordAt}
 use Rattle.recipe.specs.Scan.{Item, items, scan, itemAt, placeOf}
 use Rattle.recipe.proofs.Records.{good-inside, good-index}
-use Rattle.recipe.proofs.Scans.{Scanned, over, passes, scanned, scan-end, scan-record}
+use Rattle.recipe.proofs.Scans.{scan-end, scan-record}
 
 pub data Chain (b : List ℕ) : ℕ → List Item → Type 0 where
   stop : {at : ℕ} → at ≡ length b → Chain b at []
   link : {at next : ℕ} {o : Optic} {l : List Item} → recordAt b at ≡ good o next → Chain b next l
       → Chain b at (record { at = at; next = next; optic = o } ∷ l)
 
-chained : (b : List ℕ) {left at : ℕ} {l : List Item} → at ≤ length b → Scanned b true left at (items l) → Chain b at l
-chained b {at = at} h (over k) = stop {at = at} (omega arith)
-chained b h (passes k e s) = link e (chained b (good-inside b _ e .1) s)
-
-pub scan-chain : (b : List ℕ) (left at : ℕ) (l : List Item) → at ≤ length b → scan true b left at ≡ items l
-    → Chain b at l
-scan-chain b left at l h e = chained b h (rw e at (scanned true b left at))
-
--- and so they are scanned, whether or not all are asked for
+-- they are scanned, whether or not all are asked for
 pub chain-scan : (all : Bool) (b : List ℕ) (left : ℕ) {at : ℕ} {l : List Item} → Chain b at l → length l ≤ left
     → scan all b left at ≡ items l
 chain-scan all b left {at} (stop e) h = scan-end all b left at (omega arith)

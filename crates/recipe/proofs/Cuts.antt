@@ -1,12 +1,12 @@
--- The first records of a recipe: where the last of them ends, the recipe cut there, and those of a good recipe. Assumes
--- nothing.
+-- The first records of a recipe: where the last of them ends, that they are all of the recipe cut there, and those of a
+-- good recipe. Assumes nothing.
 use Prim.Native.Nat.{ℕ, zero, suc, _≤_}
 use native.Mathlib.Omega.{arith}
-use mathlib.Core.Path.{_≡_, refl}
+use mathlib.Core.Path.{_≡_, refl, subst}
 use mathlib.Core.Bool.{Bool, true, false}
 use mathlib.Core.List.{List, [], _∷_}
 use lib.ListN.{length, take}
-use lib.Seq.{length-take-le}
+use lib.Seq.{length-take-le, take-length}
 use Rattle.recipe.specs.Scan.{Item, items, scan, itemAt}
 use Rattle.recipe.proofs.Records.{good-inside}
 use Rattle.recipe.proofs.Scans.{Scanned, over, enough, passes, scanned, scan-end, scan-record}
@@ -36,7 +36,13 @@ module _ (b : List ℕ) where
       let r = end-bounds (i .1) s in
       (omega arith, r .1)
 
-  -- they are all of the recipe cut there
+  -- where all are asked for they end with the recipe
+  end-all : {left at : ℕ} {l : List Item} → at ≤ length b → Scanned b true left at (items l)
+      → endFrom at l ≡ length b
+  unfolding endFrom
+  end-all h (over k) = omega arith
+  end-all h (passes k e s) = end-all (good-inside b _ e .1) s
+
   chained : {all : Bool} {left at : ℕ} {l : List Item} (n : ℕ) → at ≤ length b → Scanned b all left at (items l)
       → endFrom at l ≡ n → Chain (take n b) at l
   unfolding endFrom
@@ -53,6 +59,11 @@ module _ (b : List ℕ) where
 
   pub cut-within : (all : Bool) (left : ℕ) (l : List Item) → scan all b left 0 ≡ items l → endFrom 0 l ≤ length b
   cut-within all left l e = end-bounds (omega arith) (rw e at (scanned all b left 0)) .1
+
+  pub scan-chain : (left at : ℕ) (l : List Item) → at ≤ length b → scan true b left at ≡ items l → Chain b at l
+  scan-chain left at l h e =
+      let s = rw e at (scanned true b left at) in
+      subst (λ (y : List ℕ). Chain y at l) (take-length b) (chained (length b) h s (end-all h s))
 
   -- the first n of a good recipe's
   first-of : {left at : ℕ} {l : List Item} (n : ℕ) → Scanned b true left at (items l)

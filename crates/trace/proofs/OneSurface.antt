@@ -22,10 +22,10 @@ use Rattle.trace.specs.Run.{mostRecords, Reply, reply, recipeOf, itemsOf
 use Rattle.trace.specs.Run.{rayAdmission, startAt, startOf, wholeOf}
 use Rattle.trace.specs.Wanted.{refusedReach, rowAt, upTo, reachOn, reachOf}
 use Rattle.trace.specs.OneSurface.{cutOn, cut, InFull, OneSurface}
-use Rattle.trace.proofs.Starts.{Admitted, admitted-is, ray-good, good-ray}
+use Rattle.trace.proofs.Starts.{Admitted, admitted-is, good-ray}
 use Rattle.trace.proofs.Demand3.{admitted-start}
 use Rattle.trace.proofs.Rows.{wide, record-there, same-row, blank-behind}
-use Rattle.trace.proofs.Reaches.{cut-is, cut-scanned, low-counted}
+use Rattle.trace.proofs.Reaches.{front, cut-is, cut-scanned, low-counted, admitted, all-items}
 
 -- beside the full trace
 module _ (b : List ℕ) (ray : Ray) (index : Float) (z : List Float) (k : ℕ)
@@ -120,17 +120,13 @@ cut-passes : (b : List ℕ) (ray : Ray) (index : Float) (z : List Float) (k : �
 unfolding startOf startAt
 cut-passes b ray index z k g room =
     let l = g .surfaces in
-    let is = cut-is b k l (g .scanned) (g .counted) in
-    let good = cut-scanned b k l (g .scanned) (g .counted) true mostRecords (let h = g .low in omega arith) in
-    let a : Admitted (items l) ray index (blank z) =
-    record {
-      good = refl;
-      beam = ray-good ray index (g .beam);
-      room = rw (g .counted, length-replicate (length z) 0f) room;
-    } in
+    let fits : width * suc k ≤ length (blank z) = rw (length-replicate (length z) 0f) room in
+    let a = admitted b ray index k (g .low) l (g .scanned) (g .counted) (g .beam) (blank z) fits in
     let accept : List Item → Reply = λ l. reply 1 0 (firstState (length l) (beamOf ray index)) (blank z) in
-    rw (is, good)
-    (ap (λ (r : Reply). r .answer .number) (admitted-is 0 ray index (blank z) (items l) a accept), g .counted)
+    rw (cut-is b k l (g .scanned) (g .counted)) (
+      ap (λ (r : Reply). r .answer .number) (admitted-is 0 ray index (blank z) (recipeOf (front b l)) a accept),
+      ap length (all-items b ray index k (g .low) l (g .scanned) (g .counted) (g .beam)) ∙ g .counted,
+    )
 
 pub one-surface : OneSurface
 unfolding reachOf

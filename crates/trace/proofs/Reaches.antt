@@ -14,7 +14,7 @@ use borrow.Author.Tests.{ne-eqb, lt-ltb, le-leb, lt-leb}
 use Rattle.numbers.specs.Arithmetic.{0f}
 use Rattle.surfaces.specs.declared.types.Ray.{Ray}
 use Rattle.recipe.specs.declared.scan.Checked.{Checked}
-use Rattle.recipe.specs.Scan.{Item, Scan, refused, items, itemsIn, scan, checkOf, nothing}
+use Rattle.recipe.specs.Scan.{Item, Scan, items, itemsIn, scan, checkOf, nothing}
 use Rattle.recipe.proofs.Scans.{scan-sound, scan-few}
 use Rattle.recipe.proofs.Notes.{notes-end}
 use Rattle.recipe.proofs.Chain.{chain-scan}
@@ -29,12 +29,12 @@ use Rattle.trace.specs.Run.{rayAdmission}
 use Rattle.trace.specs.Wanted.{noRow, refusedReach, rowAt, upTo, reachOn, reachOf}
 use Rattle.trace.specs.Parts.{Ready, blanks, lentFrom}
 use Rattle.trace.specs.OneSurface.{recordIn, cut}
-use Rattle.trace.proofs.Starts.{Finding, finds-bad, finds-good, found, Admitted, ray-good}
+use Rattle.trace.proofs.Starts.{Finding, found, found-bad, found-good, found-items, Admitted, ray-good}
 use Rattle.trace.proofs.Wholes.{first-ready, ended-buffer}
 use Rattle.trace.proofs.Rows.{wide, record-there}
 
 -- the first surfaces of a recipe, and what is left of it where it is cut behind them
-abbrev front : List ℕ → List Item → List ℕ
+abbrev pub front : List ℕ → List Item → List ℕ
 front b l = take (endFrom 0 l) b
 
 -- The records up to k, if there are so many, are all of the recipe cut after them.
@@ -50,11 +50,25 @@ module _ (b : List ℕ) (k : ℕ) (l : List Item) (e : upTo b k ≡ items l) (n 
 pub low-counted : (b : List ℕ) (k : ℕ) {l : List Item} → upTo b k ≡ items l → k < length l → length l ≡ suc k
 low-counted b k e h = let few = scan-few false b (suc k) 0 in omega (arith, rw e at few)
 
--- a walk that keeps surface k's record alone
+-- a start of the cut recipe is accepted, and a walk of it keeps surface k's record alone
 module _ (b : List ℕ) (ray : Ray) (index : Float) (k : ℕ) (low : k < mostRecords) (l : List Item)
     (e : upTo b k ≡ items l) (n : length l ≡ suc k) (r : rayAdmission ray index ≡ 1) where
   abbrev y : List ℕ
   y = front b l
+
+  good : recipeOf y ≡ items l
+  good = cut-scanned b k l e n true mostRecords (omega arith)
+
+  pub all-items : itemsOf y ≡ l
+  all-items = ap itemsIn good
+
+  pub admitted : (z : List Float) → width * suc k ≤ length z → Admitted (recipeOf y) ray index z
+  admitted z room =
+      record {
+        good = good ∙ ap items (sym all-items);
+        beam = ray-good ray index r;
+        room = rw (all-items, n) room;
+      }
 
   abbrev first : State
   first = standing 0 0 (beamOf ray index) 0 0
@@ -68,31 +82,20 @@ module _ (b : List ℕ) (ray : Ray) (index : Float) (k : ℕ) (low : k < mostRec
   all-blank : blank z ≡ z
   all-blank = rw long (sym (replicate-append-replicate (width * k) width 0f))
 
-  good : recipeOf y ≡ items l
-  good = cut-scanned b k l e n true mostRecords (omega arith)
-
-  all-items : itemsOf y ≡ l
-  all-items = ap itemsIn good
-
-  admitted : Admitted (recipeOf y) ray index (blank z)
-  admitted =
-      record {
-        good = good ∙ ap items (sym all-items);
-        beam = ray-good ray index r;
-        room = rw (all-items, n, all-blank, long) (omega arith);
-      }
+  starts : Admitted (recipeOf y) ray index (blank z)
+  starts = admitted (blank z) (rw (all-blank, long) (omega arith))
 
   first-is : firstState (length (itemsOf y)) (beamOf ray index) ≡ first
   first-is = rw (all-items, n, ne-eqb 0 (suc k) (λ q. omega arith))
 
   begins : Ready y (width * k + width) (suc k) first
-  begins = rw (first-is, all-items, n, all-blank, long) at (first-ready y ray index z admitted)
+  begins = rw (first-is, all-items, n, all-blank, long) at (first-ready y ray index z starts)
 
   ends : (s : State) (v : List Float) → length v ≡ width
       → held s v ≡ lentFrom k (advance (itemsOf y) 65535 (held first z))
       → v ≡ rowAt (unbroken 0 (opticsOf l) (beamOf ray index) .marks) k
   ends s v wide-v q =
-      let buffer = rw (first-is, all-blank) at (ended-buffer y ray index z admitted) in
+      let buffer = rw (first-is, all-blank) at (ended-buffer y ray index z starts) in
       sym (take-all width v (omega arith))
       ∙ ap (λ (h : Held). take width (h .buffer)) q
       ∙ ap (λ (w : List Float). recordIn w k) buffer
@@ -109,44 +112,33 @@ module _ (b : List ℕ) (ray : Ray) (index : Float) (k : ℕ) (low : k < mostRec
   unfolding checkOf
   finds = found k c (upTo b k) (scan-sound false b (suc k) 0) (rw (add-one k) at checked)
 
-  past : (r : Reached) → r ≡ reachOn (upTo b k) ray index k → r ≡ reachOf b ray index k
+  -- by what the check says of the records
+  past : {s : Scan} → upTo b k ≡ s → (r : Reached) → r ≡ reachOn s ray index k → r ≡ reachOf b ray index k
   unfolding reachOf
-  past r e = rw (lt-leb mostRecords k low) e
-
-  bad : (s : Scan) → Finding k c s → c .number ≢ 1 → refusedReach (c .number) (c .place) ≡ reachOn s ray index k
-  bad (refused n p) (finds-bad e f g) h = rw (e, f)
-  bad (items l) (finds-good e n m) h = absurd (h n)
+  past says r e = rw (lt-leb mostRecords k low, says) e
 
   pub reach-bad : c .number ≢ 1 → refusedReach (c .number) (c .place) ≡ reachOf b ray index k
-  reach-bad h = past _ (bad (upTo b k) finds h)
+  reach-bad h = past (found-bad (upTo b k) finds h) _ refl
 
   module _ (h : c .number ≡ 1) where
-    noted : (s : Scan) → Finding k c s
-        → (s ≡ items (itemsIn s)) × (c .count ≡ length (itemsIn s)) × (c .end ≡ endFrom 0 (itemsIn s))
-    noted (refused n p) (finds-bad e f g) = absurd (g h)
-    noted (items l) (finds-good e n m) = (refl, m, ap (λ (d : Checked). d .end) e ∙ notes-end k nothing l)
-
     scanned : upTo b k ≡ items upto
-    scanned = noted (upTo b k) finds .0
+    scanned = found-good (upTo b k) finds h
 
     counted : c .count ≡ length upto
-    counted = noted (upTo b k) finds .1
+    counted = found-items (upTo b k) finds scanned .1
 
     stopped : c .end ≡ endFrom 0 upto
-    stopped = noted (upTo b k) finds .2
-
-    past-records : (r : Reached) → r ≡ reachOn (items upto) ray index k → r ≡ reachOf b ray index k
-    past-records r e = past r (e ∙ ap (λ (s : Scan). reachOn s ray index k) (sym scanned))
+    stopped = ap (λ (d : Checked). d .end) (found-items (upTo b k) finds scanned .0) ∙ notes-end k nothing upto
 
     pub reach-short : c .count ≤ k → refusedReach 2 0 ≡ reachOf b ray index k
-    reach-short i = past-records _ (rw (le-leb (length upto) k (omega (arith, counted))))
+    reach-short i = past scanned _ (rw (le-leb (length upto) k (omega (arith, counted))))
 
     module _ (i : k < c .count) where
       there : leb (length upto) k ≡ false
       there = lt-leb (length upto) k (omega (arith, counted))
 
       pub reach-ray : {n : ℕ} → n ≡ rayAdmission ray index → n ≢ 1 → refusedReach n 0 ≡ reachOf b ray index k
-      reach-ray {n} e g = past-records _ (rw (there, ← e, ne-eqb n 1 g))
+      reach-ray {n} e g = past scanned _ (rw (there, ← e, ne-eqb n 1 g))
 
 -- all that is asked before the walk
 pub record Asked (b : List ℕ) (ray : Ray) (index : Float) (k : ℕ) (c : Checked) : Type 0 where
@@ -185,5 +177,5 @@ module _ {b : List ℕ} {ray : Ray} {index : Float} {k : ℕ} {c : Checked} (a :
       → record { number = 1; place = 0; row = v } ≡ reachOf b ray index k
   reach-done s v w q =
       let row = ends b ray index k (a .low) l is-scanned exactly (a .beam) s v w (rw ends-there at q) in
-      past-records b ray index k (a .low) c (a .checked) (a .good) _
+      past b ray index k (a .low) c (a .checked) is-scanned _
       (rw (there b ray index k (a .low) c (a .checked) (a .good) (a .there), a .beam, row))

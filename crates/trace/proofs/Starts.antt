@@ -30,6 +30,9 @@ use Rattle.trace.specs.Run.{accept, continueOn, continueOf}
 use Rattle.trace.specs.Parts.{Ready}
 use Rattle.trace.proofs.Fits.{good-beam, fits-fit, few-steps}
 
+no-items : {n p : ℕ} {l : List Item} → refused n p ≡ items l → ⊥
+no-items e = let z : _≡_ {A = ℕ} 0 1 = cc in omega arith
+
 -- what a check says of the recipe
 pub data Finding (w : ℕ) (c : Checked) : Scan → Type 0 where
   finds-bad : {n p : ℕ} → c .number ≡ n → c .place ≡ p → c .number ≢ 1 → Finding w c (refused n p)
@@ -47,6 +50,21 @@ found w c (items l) h e =
 pub finding : (b : List ℕ) (w : ℕ) (c : Checked) → c ≡ checkOf b mostRecords true w → Finding w c (recipeOf b)
 unfolding checkOf
 finding b w c e = found w c (recipeOf b) (scan-sound true b mostRecords 0) e
+
+-- what it says by its number, and of the surfaces
+module _ {w : ℕ} {c : Checked} where
+  pub found-bad : (r : Scan) → Finding w c r → c .number ≢ 1 → r ≡ refused (c .number) (c .place)
+  found-bad (refused n p) (finds-bad e f g) h = rw (e, f)
+  found-bad (items l) (finds-good e n k) h = absurd (h n)
+
+  pub found-good : (r : Scan) → Finding w c r → c .number ≡ 1 → r ≡ items (itemsIn r)
+  found-good (refused n p) (finds-bad e f g) h = absurd (g h)
+  found-good (items l) (finds-good e n k) h = refl
+
+  pub found-items : (r : Scan) → Finding w c r → r ≡ items (itemsIn r)
+      → (c ≡ notes w nothing (itemsIn r)) × (c .count ≡ length (itemsIn r))
+  found-items (refused n p) f e = absurd (no-items e)
+  found-items (items l) (finds-good e n k) _ = (e, k)
 
 -- an answer and the buffer beside it
 beside : (z : List Float) (accept : Answer) (n : ℕ) (t : Bool)
@@ -71,9 +89,6 @@ pub start-is : (b : List ℕ) (c : Checked) → c ≡ checkOf b mostRecords true
 unfolding startAt
 start-is b c e base ray index z y a blanked q =
     rw (q, blanked) (begun c (recipeOf b) (finding b 0 c e) base ray index (blank z))
-
-pub no-items : {n p : ℕ} {l : List Item} → refused n p ≡ items l → ⊥
-no-items e = let z : _≡_ {A = ℕ} 0 1 = cc in omega arith
 
 -- an accepted start
 pub record Admitted (r : Scan) (ray : Ray) (index : Float) (z : List Float) : Type 0 where
@@ -152,26 +167,22 @@ module _ (base : ℕ) (ray : Ray) (index : Float) (z : List Float) where
 -- continue
 module _ (b : List ℕ) (s : State) (z : List Float) (k : ℕ) (c : Checked)
     (e : c ≡ checkOf b mostRecords true (s .number)) where
-  bad : (r : Scan) → Finding (s .number) c r → c .number ≢ 1
-      → reply (c .number) (c .place) s z ≡ continueOn r (length b) s z k
-  bad (refused n p) (finds-bad q f g) h = rw (q, f)
-  bad (items l) (finds-good q n i) h = absurd (h n)
+  finds : Finding (s .number) c (recipeOf b)
+  finds = finding b (s .number) c e
 
   pub on-bad : c .number ≢ 1 → reply (c .number) (c .place) s z ≡ continueOf b s z k
   unfolding continueOf
-  on-bad h = bad (recipeOf b) (finding b (s .number) c e) h
-
-  good : (r : Scan) → Finding (s .number) c r → c .number ≡ 1
-      → (r ≡ items (itemsIn r)) × (c ≡ notes (s .number) nothing (itemsIn r)) × (c .count ≡ length (itemsIn r))
-  good (refused n p) (finds-bad q f g) h = absurd (g h)
-  good (items l) (finds-good q n i) h = (refl, q, i)
+  on-bad h = rw (found-bad (recipeOf b) finds h)
 
   module _ (h : c .number ≡ 1) where
     abbrev l : List Item
     l = itemsOf b
 
     recipe-good : (recipeOf b ≡ items l) × (c ≡ notes (s .number) nothing l) × (c .count ≡ length l)
-    recipe-good = good (recipeOf b) (finding b (s .number) c e) h
+    recipe-good =
+        let good = found-good (recipeOf b) finds h in
+        let noted = found-items (recipeOf b) finds good in
+        (good, noted .0, noted .1)
 
     -- past the recipe's checks
     past : (x : Reply) → x ≡ continueOn (items l) (length b) s z k → x ≡ continueOf b s z k

@@ -18,7 +18,8 @@ use Rattle.recipe.specs.declared.record.ReadRecord.{ReadRecord}
 use Rattle.recipe.specs.Record.{readAt}
 use Rattle.recipe.specs.Scan.{Item, items, itemAt, placeOf}
 use Rattle.recipe.proofs.Records.{good-read}
-use Rattle.recipe.proofs.Chain.{Chain, scan-chain, record-there}
+use Rattle.recipe.proofs.Chain.{Chain, record-there}
+use Rattle.recipe.proofs.Cuts.{scan-chain}
 use Rattle.trace.specs.declared.state.State.{State}
 use Rattle.trace.specs.Leg.{width}
 use Rattle.trace.specs.State.{Held, held, pausedAt, stateAfter, surfaceLeft, stepOn, move, advance}

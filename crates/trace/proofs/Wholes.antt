@@ -11,7 +11,7 @@ use lib.Ieee.{Float}
 use Rattle.numbers.specs.Arithmetic.{0f}
 use Rattle.surfaces.specs.declared.types.Ray.{Ray}
 use Rattle.recipe.specs.declared.scan.Checked.{Checked}
-use Rattle.recipe.specs.Scan.{Scan, refused, items, itemsIn, checkOf, placeOf}
+use Rattle.recipe.specs.Scan.{checkOf, placeOf}
 use Rattle.recipe.proofs.Scans.{scan-sound}
 use Rattle.trace.specs.declared.state.State.{State}
 use Rattle.trace.specs.declared.run.Answer.{Answer}
@@ -22,14 +22,9 @@ use Rattle.trace.specs.Run.{mostRecords, Reply, recipeOf, itemsOf, optic
 use Rattle.trace.specs.Run.{begunOf, startAt, wholeOf}
 use Rattle.trace.specs.Parts.{Ready}
 use Rattle.trace.proofs.Standing.{total-limit, finished-all, at-end}
-use Rattle.trace.proofs.Starts.{Finding, finds-good, finding, start-is, Admitted, admitted-by, admitted-is}
-use Rattle.trace.proofs.Starts.{refused-alike, no-items, limits-few}
+use Rattle.trace.proofs.Starts.{finding, found-items, start-is, Admitted, admitted-by, admitted-is}
+use Rattle.trace.proofs.Starts.{refused-alike, limits-few}
 use Rattle.trace.proofs.Demand3.{shown, sound}
-
--- what a check counted
-counted : (c : Checked) (r : Scan) → Finding 0 c r → r ≡ items (itemsIn r) → c .count ≡ length (itemsIn r)
-counted c (refused n p) s g = absurd (no-items g)
-counted c (items l) (finds-good e n k) g = k
 
 -- all steps from an accepted start
 module _ (y : List ℕ) (ray : Ray) (index : Float) (z : List Float) (a : Admitted (recipeOf y) ray index (blank z)) where
@@ -88,7 +83,7 @@ module _ (y : List ℕ) (ray : Ray) (index : Float) (z : List Float)
 
     pub whole-ready : Ready y (width * 0 + length w) (c .count) (a .state) × (a .state .steps < 2 ^ 62)
     whole-ready =
-        let k = counted c (recipeOf y) (finding y 0 c checked) (admission .good) in (
+        let k = found-items (recipeOf y) (finding y 0 c checked) (admission .good) .1 in (
           rw (zero-add (length w), first-is, blanked, k) (first-ready y ray index z admission),
           rw first-is (omega arith),
         )

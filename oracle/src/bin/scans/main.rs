@@ -79,17 +79,16 @@ impl Station {
         (1, 0)
     }
 
-    /// The record of one surface of the whole trace, for which the last surface is the last of the recipe.
+    /// The record of one surface, by a trace of the surfaces up to it; blank where that ended before.
     fn reach(&self, number: u64, numbers: &[f64]) -> Result<[f64; WIDTH], Answer> {
         let number = usize::try_from(number).ok().filter(|&number| number < recipe::MOST_RECORDS).ok_or((2, 0))?;
         let surfaces = recipe::first(&self.recipe, number + 1)?;
-        let last = surfaces.get(number).ok_or((2, 0))?;
-        let index = numbers[6];
-        if let Some(refusal) = ray_refusal(numbers) {
+        let too_few = (surfaces.len() <= number).then_some((2, 0));
+        if let Some(refusal) = too_few.or_else(|| ray_refusal(numbers)) {
             return Err(refusal);
         }
-        let begun = State { ray: ray(numbers), index, ..State::refused(0) };
-        let passages = unbroken(&surfaces, last.place, &begun);
+        let begun = State { ray: ray(numbers), index: numbers[6], ..State::refused(0) };
+        let passages = unbroken(&surfaces, self.recipe.len(), &begun);
         Ok(passages.get(number).map_or([0.0; WIDTH], |passage| passage.record))
     }
 

@@ -223,6 +223,12 @@ unfolding units to_bits
 same_bits m n e d h = ap (λ (u : ℕ). 0 + (size u - 53) * 2 ^ 52 + u / 2 ^ (size u - 53)) h
 
 pub same_units : (x y : Float) → AboveZero x → AboveZero y → units x ≡ units y → x ≡ y
+same_units nan y h k u = elim h.1 [ ]
+same_units (inf _) y h k u = elim h.1 [ ]
+same_units (fin true m e) y h k u = elim h.1 [ ]
+same_units (fin false m e) nan h k u = elim k.1 [ ]
+same_units (fin false m e) (inf _) h k u = elim k.1 [ ]
+same_units (fin false m e) (fin true n d) h k u = elim k.1 [ ]
 same_units (fin false m e) (fin false n d) (h, p) (k, q) u =
     sym (of_bits-to_bits binary64 (fin false m e) h)
     ∙ ap (of_bits binary64) (same_bits m n e d u)

@@ -42,6 +42,7 @@ not_below (plain m e) (plain n d) h = le-ltb (m * up e * down d) (n * up d * dow
 le_of_either : (a b : ℕ) (s t : Bool) → (T s → a < b) → (T t → a ≡ b) → T (s || (t && true)) → a ≤ b
 le_of_either a b true t f g h = le_of_lt (f tt)
 le_of_either a b false true f g h = le_of_eq (g tt)
+le_of_either a b false false f g h = elim h [ ]
 
 pub of_le : {x y : Float} → Plain x → Plain y → T (le x y) → AtMost x y
 unfolding le
@@ -75,6 +76,9 @@ pub some : (m : ℕ) → T (ltb 0 (suc m))
 some m = lt→ltb 0 (suc m) (zero-lt-suc m)
 
 pub of_positive : (x : Float) → T (positive x) → Plain x
+of_positive nan p = elim p [ ]
+of_positive (inf _) p = elim p [ ]
+of_positive (fin true m e) p = elim p [ ]
 of_positive (fin false m e) p = plain m e
 
 pub above_zero : {x : Float} → Plain x → 0 < num x → T (positive x)

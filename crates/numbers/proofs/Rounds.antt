@@ -1,6 +1,6 @@
 -- A number above zero is its units over 2 ^ 1074, and that fraction, or its own, rounds to it. Assumes nothing.
-use Rattle.std.proofs.Common.{◌≡◌, ℕ, suc, ◌*◌, ◌^◌, false, T, ℤ, ap, ◌∙◌, pow_pos}
-use lib.Ieee.{Float, fin, binary64, up, down, fits, round}
+use Rattle.std.proofs.Common.{◌≡◌, ℕ, zero, suc, ◌*◌, ◌^◌, true, false, T, ℤ, ap, ◌∙◌, pow_pos}
+use lib.Ieee.{Float, nan, inf, fin, binary64, up, down, fits, round}
 use lib.Ieee.Exact.{HasValue, round_exact}
 use lib.Ieee.Fits.{down_pos, round-fits}
 use lib.Ieee.Positive.{positive_of_value, value_pos}
@@ -13,11 +13,19 @@ use Rattle.numbers.proofs.Values.{units_lt, units_of}
 
 pub value : (x : Float) → AboveZero x → HasValue x false (units x) (2 ^ 1074)
 unfolding negative
+value nan h = elim h.1 [ ]
+value (inf _) h = elim h.1 [ ]
+value (fin false zero e) h = elim h.1 [ ]
+value (fin true m e) h = elim h.1 [ ]
 value (fin false (suc m) e) (h, p) = units_exact (fin false (suc m) e) (h, tt)
 
 -- units have at most 53 digits before their zeros, so rounding loses none
 exact : (x : Float) → AboveZero x → HasValue (round binary64 false (units x) (2 ^ 1074)) false (units x) (2 ^ 1074)
 unfolding units
+exact nan h = elim h.1 [ ]
+exact (inf _) h = elim h.1 [ ]
+exact (fin false zero e) h = elim h.1 [ ]
+exact (fin true m e) h = elim h.1 [ ]
 exact (fin false (suc m) e) (h, p) =
     let x = fin false (suc m) e in
     let s = split x (h, tt) in

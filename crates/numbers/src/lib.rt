@@ -1,5 +1,7 @@
 // Functions of binary64 numbers that Rattle's operators do not give. Each says what it returns for every argument, and
 // none asks anything of its caller.
+#![tactic(auto)]
+
 mod basic;
 mod root;
 

@@ -1,17 +1,11 @@
 -- `numbers::root::digit_by_digit` meets its contract. The invariant: after some number t of turns, r is the root of the
 -- digits of m * 2 ^ (2 * t) that have left the register a; the measure falls, as r grows at each turn. Assumes nothing.
-use Rattle.std.proofs.Common.{◌≡◌, ℕ, zero, suc, ◌+◌, ◌-◌, ◌*◌, ◌/◌, ◌^◌, ◌<◌, ◌≤◌, mul-le-mul_right, mul-le-mul, mul-lt-mul_of_pos_right, mul-pos, lt_of_not-le, le-mul_of_pos_right, arith, pow_pos, pow_mono}
+use Rattle.std.proofs.Common.{◌≡◌, ℕ, zero, suc, ◌+◌, ◌*◌, ◌/◌, ◌^◌, ◌<◌, ◌≤◌, mul-le-mul_right, mul-le-mul, mul-lt-mul_of_pos_right, mul-pos, lt_of_not-le, le-mul_of_pos_right, arith, pow_pos, pow_mono}
 use native.Mathlib.Nat.{pow-succ'}
 use Rattle.numbers.specs.Parts.{Near}
-use Rattle.numbers.proofs.root.digit_by_digit.Statement.{statement}
-use Rattle.numbers.proofs.root.digit_by_digit.Tie as tie
-
--- with w = 2 ^ t after t turns: each has taken two digits from the register, and given one of r
-record Digits (m a r rest w : ℕ) : Type 0 where
-  value : (r * r + rest) * 2 ^ 64 + a ≡ m * (w * w)
-  left : rest ≤ 2 * r
-  low : a < 2 ^ 64
-  few : r < 2 ^ 53
+use Rattle.numbers.proofs.root.digit_by_digit.Invariants.{Digits}
+use Rattle.numbers.proofs.root.digit_by_digit.Goals as goal
+use Rattle.numbers.proofs.root.digit_by_digit.Goals.{After-loop-r}
 
 -- `omega` counts to 38 digits: the register's 64 binary digits are taken off both sides first
 under : (m a s W : ℕ) → s * 2 ^ 64 + a ≡ m * W → m * W < 2 ^ 64 * W → s < W
@@ -72,98 +66,69 @@ module _ (m a r rest t : ℕ) (h : Digits m a r rest (2 ^ t)) (full : 2 ^ 52 ≤
 up : (n r rest : ℕ) → r * r + rest ≡ n → rest ≤ 2 * r → r < rest → Near n (r + 1)
 up n r rest e l g = omega arith
 
-abbrev invariant-loop : tie.invariant-loop
-invariant-loop m a₀ r₀ rest₀ a r rest = (t : ℕ) × Digits m a r rest (2 ^ t)
-
-abbrev decreases-loop : tie.decreases-loop
-decreases-loop m a₀ r₀ rest₀ a r rest = 2 ^ 53 - r
-
 -- what the loop leaves
-ended : (c : tie.After-loop invariant-loop decreases-loop) →
-    let l = c.before.loop in
+ended : (c : After-loop-r) →
+    let l = c.before.loop-r in
     l.r * l.r + l.rest ≡ c.before.before.args.m * 2 ^ 42
 ended c =
-    let l = c.before.loop in
+    let l = c.before.loop-r in
     emptied c.before.before.args.m l.a l.r l.rest l.invariant.0 l.invariant.1 (omega arith) (omega arith)
     (omega arith)
 
-loop-holds : tie.Need-loop-init invariant-loop decreases-loop
-loop-holds c = (0, omega arith)
+pub loop-r-init : goal.loop-r-init
+loop-r-init c = (0, omega arith)
 
-mul-rest : tie.Need-overflow-mul-rest invariant-loop decreases-loop
-mul-rest c = omega arith
+pub overflow_mul-rest : goal.overflow_mul-rest
+overflow_mul-rest c = omega arith
 
-add-rest : tie.Need-overflow-add-rest invariant-loop decreases-loop
-add-rest c = omega arith
+pub overflow_add-rest : goal.overflow_add-rest
+overflow_add-rest c = omega arith
 
-mul-r : tie.Need-overflow-mul-r invariant-loop decreases-loop
-mul-r c = omega arith
+pub overflow_mul-r : goal.overflow_mul-r
+overflow_mul-r c = omega arith
 
-mul-if1 : tie.Need-overflow-mul-if1 invariant-loop decreases-loop
-mul-if1 c = omega arith
+pub overflow_mul-r-in-loop-r : goal.overflow_mul-r-in-loop-r
+overflow_mul-r-in-loop-r c = omega arith
 
-mul-rest-2 : tie.Need-overflow-mul-rest-2 invariant-loop decreases-loop
-mul-rest-2 c = omega arith
+pub overflow_mul-rest-then-r-rest : goal.overflow_mul-rest-then-r-rest
+overflow_mul-rest-then-r-rest c = omega arith
 
-add-rest-2 : tie.Need-overflow-add-rest-2 invariant-loop decreases-loop
-add-rest-2 c = omega arith
+pub overflow_add-rest-then-r-rest : goal.overflow_add-rest-then-r-rest
+overflow_add-rest-then-r-rest c = omega arith
 
-sub-rest : tie.Need-overflow-sub-rest invariant-loop decreases-loop
-sub-rest c = omega arith
+pub overflow_sub-rest : goal.overflow_sub-rest
+overflow_sub-rest c = omega arith
 
-add_r : tie.Need-overflow-add-r invariant-loop decreases-loop
-add_r c = omega arith
+pub overflow_add-r : goal.overflow_add-r
+overflow_add-r c = omega arith
 
-loop-less : tie.Need-loop-smaller invariant-loop decreases-loop
-loop-less c = omega arith
+pub loop-r-smaller-then-r-rest : goal.loop-r-smaller-then-r-rest
+loop-r-smaller-then-r-rest c = omega arith
 
-loop-again : tie.Need-loop-preserved invariant-loop decreases-loop
-loop-again c =
-    let t = c.before.before.loop.invariant.0 in
+pub loop-r-preserved-then-r-rest : goal.loop-r-preserved-then-r-rest
+loop-r-preserved-then-r-rest c =
+    let t = c.before.before.loop-r.invariant.0 in
     (suc t, rw (pow-succ' 2 t) (omega arith))
 
-loop-less-2 : tie.Need-loop-smaller-2 invariant-loop decreases-loop
-loop-less-2 c =
+pub loop-r-smaller : goal.loop-r-smaller
+loop-r-smaller c =
     let m = c.before.before.before.args.m in
-    let l = c.before.before.loop in
+    let l = c.before.before.loop-r in
     let p = le-mul_of_pos_right m (squared l.invariant.0) in
     omega (arith, grows m l.a l.r l.rest _ l.invariant.1.value (omega arith) (omega arith) (omega arith))
 
-loop-again-2 : tie.Need-loop-preserved-2 invariant-loop decreases-loop
-loop-again-2 c =
-    let t = c.before.before.loop.invariant.0 in
+pub loop-r-preserved : goal.loop-r-preserved
+loop-r-preserved c =
+    let t = c.before.before.loop-r.invariant.0 in
     (suc t, rw (pow-succ' 2 t) (omega arith))
 
-add-result : tie.Need-overflow-add-result invariant-loop decreases-loop
-add-result c = omega arith
+pub overflow_add-result : goal.overflow_add-result
+overflow_add-result c = omega arith
 
-returns : tie.Need-returns invariant-loop decreases-loop
-returns c =
-    let l = c.before.before.loop in
+pub returns-then-r-rest-2 : goal.returns-then-r-rest-2
+returns-then-r-rest-2 c =
+    let l = c.before.before.loop-r in
     up (c.before.before.before.args.m * 2 ^ 42) l.r l.rest (ended c.before) (omega arith) (omega arith)
 
-returns-2 : tie.Need-returns-2 invariant-loop decreases-loop
-returns-2 c = omega (arith, ended c.before)
-
-pub digit_by_digit_spec : {M : Type 1} → statement M
-digit_by_digit_spec =
-    tie.close
-    (tie.spec
-    invariant-loop
-    decreases-loop
-    loop-holds
-    mul-rest
-    add-rest
-    mul-r
-    mul-if1
-    mul-rest-2
-    add-rest-2
-    sub-rest
-    add_r
-    loop-less
-    loop-again
-    loop-less-2
-    loop-again-2
-    add-result
-    returns
-    returns-2)
+pub returns-else-r-rest-2 : goal.returns-else-r-rest-2
+returns-else-r-rest-2 c = omega (arith, ended c.before)

@@ -4,8 +4,7 @@ use native.Mathlib.Nat.{sub_self}
 use lib.Ieee.{Float, nan, inf, fin, binary64, up, down, round, sum, add, sub, neg, eq, of_bits}
 use lib.Ieee.Fits.{down_pos}
 use lib.Ieee.Scale.{finite, round_same}
-use Rattle.numbers.proofs.basic.is_finite.Statement.{statement}
-use Rattle.numbers.proofs.basic.is_finite.Tie as tie
+use Rattle.numbers.proofs.basic.is_finite.Goals as goal
 
 nothing : (d : ℕ) → 0 < d → eq (round binary64 false 0 d) (of_bits binary64 0) ≡ true
 unfolding round eq of_bits
@@ -23,8 +22,5 @@ difference (inf true) = refl
 difference (inf false) = refl
 difference (fin s m e) = itself s (m * up e * down e) (down e * down e) (mul-pos (down_pos e) (down_pos e))
 
-returns : tie.Need-returns
+pub returns : goal.returns
 returns c = difference c.args.x
-
-pub is_finite_spec : {M : Type 1} → statement M
-is_finite_spec = tie.close (tie.spec returns)

@@ -1,5 +1,5 @@
 -- `numbers::root::sqrt` meets its contract: by the sign of x, and above zero by its pattern. Assumes nothing.
-use Rattle.std.proofs.Common.{◌≡◌, zero, suc, ◌*◌, ◌<◌, ◌≤◌, true, false, ◌||◌, T, eqb, sym, refl, ap, ◌∙◌, true≢false, zero-lt-suc, mul-pos, zero-mul, arith, rules, ltb-false, eqb-true}
+use Rattle.std.proofs.Common.{◌≡◌, zero, suc, ◌*◌, ◌<◌, ◌≤◌, true, false, ◌||◌, T, eqb, sym, refl, ap, ◌∙◌, true≢false, zero-lt-suc, mul-pos, zero-mul, arith, ltb-false, eqb-true}
 use Prim.Native.Nat.compare
 use mathlib.Core.Bool.{beq, false≢true, and-eq-true_iff}
 use denote.Floats.{passes}
@@ -9,8 +9,8 @@ use Rattle.numbers.specs.Root.{root, root_units}
 use Rattle.numbers.specs.Parts.{pattern_units}
 use Rattle.numbers.proofs.Signs.{Positive, infinity, plus, positive, no_nan}
 use Rattle.numbers.proofs.Values.{units_pattern, bits_lt, bits_pos}
-use Rattle.numbers.proofs.root.sqrt.Statement.{statement}
-use Rattle.numbers.proofs.root.sqrt.Tie as tie
+use Rattle.numbers.proofs.root.sqrt.Goals as goal
+use Rattle.numbers.proofs.root.sqrt.Goals.{Start, Then-b-lt-INFINITY, Then-x}
 
 of_zero : (x : Float) → eq x (of_bits binary64 0) ≡ true → x ≡ root x
 unfolding eq of_bits root
@@ -56,83 +56,56 @@ range infinity h = omega arith
 range (plus m e) h = (bits_pos m e h, omega (arith, bits_lt m e h))
 
 -- where x is seen to be above zero, from where it is seen to be finite
-abbrev above_zero : tie.Then3 → tie.Then1
+abbrev above_zero : Then-b-lt-INFINITY → Then-x
 above_zero c = c.before.before.before
 
 -- what owning an `f64` tells: the format holds it
-held : (c : tie.Start) → T (fits binary64 c.args.x)
-held c = passes _ c.well-formed.0.1
+held : (c : Start) → T (fits binary64 c.args.x)
+held c = passes _ c.well_formed.0.1
 
-above : (c : tie.Then1) → Positive c.before.args.x
-above c = positive c.before.args.x c.if1.true
+above : (c : Then-x) → Positive c.before.args.x
+above c = positive c.before.args.x c.if-x.true
 
-within : (c : tie.Then1) →
+within : (c : Then-x) →
     let b = to_bits binary64 c.before.args.x in (0 < b) × (b ≤ 0x7ff0_0000_0000_0000)
 within c = range (above c) (held c.before)
 
-finite : (c : tie.Then1) →
+finite : (c : Then-x) →
     let x = c.before.args.x in
     to_bits binary64 x < 0x7ff0_0000_0000_0000 → root_units (pattern_units (to_bits binary64 x)) ≡ root x
 finite c = of_finite (above c) (held c.before)
 
-float-to-bits-b : tie.Need-float-to-bits-b
-float-to-bits-b c = no_nan (above c)
+pub float_to_bits-b : goal.float_to_bits-b
+float_to_bits-b c = no_nan (above c)
 
-wrapping-sub-u64-requires : tie.Need-wrapping-sub-u64-requires
-wrapping-sub-u64-requires c κs = search rules
+pub returns-then-wrapping_sub_u64-lt268435456 : goal.returns-then-wrapping_sub_u64-lt268435456
+returns-then-wrapping_sub_u64-lt268435456 c = c.near_one.ensures ∙ finite c.before.before.before (omega arith)
 
-near-one-requires : tie.Need-near-one-requires
-near-one-requires c κs = search rules
+pub form_of-f-requires : goal.form_of-f-requires
+form_of-f-requires c = omega (arith, within (above_zero c))
 
-returns : tie.Need-returns
-returns c = c.near_one.ensures ∙ finite c.before.before.before (omega arith)
+pub float_of-requires : goal.float_of-requires
+float_of-requires c = c.form_of-f.ensures.1
 
-form-of-requires : tie.Need-form-of-requires
-form-of-requires c κs = omega (arith, within (above_zero c))
+pub start-requires : goal.start-requires
+start-requires c = c.before.form_of-f.ensures.1
 
-float-of-requires : tie.Need-float-of-requires
-float-of-requires c κs = c.form_of.ensures.1
+pub root_of-requires : goal.root_of-requires
+root_of-requires c = let f = c.before.before.before.form_of-f.ensures in (f.0, f.1, f.2)
 
-start-requires : tie.Need-start-requires
-start-requires c κs = c.before.form_of.ensures.1
-
-guess-requires : tie.Need-guess-requires
-guess-requires c κs = search rules
-
-root-of-requires : tie.Need-root-of-requires
-root-of-requires c κs = let f = c.before.before.before.form_of.ensures in (f.0, f.1, f.2)
-
-returns-2 : tie.Need-returns-2
-returns-2 c =
+pub returns-then-b-lt-INFINITY : goal.returns-then-b-lt-INFINITY
+returns-then-b-lt-INFINITY c =
     let f = c.before.before.before.before in
     let b = to_bits binary64 (above_zero f.before).before.args.x in
-    c.root_of.ensures (pattern_units b) f.form_of.ensures.3 ∙ finite (above_zero f.before) (omega arith)
+    c.root_of.ensures (pattern_units b) f.form_of-f.ensures.3 ∙ finite (above_zero f.before) (omega arith)
 
-returns-3 : tie.Need-returns-3
-returns-3 c =
+pub returns-then-x : goal.returns-then-x
+returns-then-x c =
     let p = c.before.before.before in
     of_infinite (above p) (held p.before) (omega arith)
 
-returns-4 : tie.Need-returns-4
-returns-4 c = of_zero c.before.before.args.x c.if4.true
+pub returns-then-x-2 : goal.returns-then-x-2
+returns-then-x-2 c = of_zero c.before.before.args.x c.if-x-2.true
 
-returns-5 : tie.Need-returns-5
-returns-5 c = of_other c.before.before.args.x c.before.if1.false c.if4.false
-
-pub sqrt_spec : {M : Type 1} → statement M
-sqrt_spec =
-    tie.close
-    (tie.spec
-    float-to-bits-b
-    wrapping-sub-u64-requires
-    near-one-requires
-    returns
-    form-of-requires
-    float-of-requires
-    start-requires
-    guess-requires
-    root-of-requires
-    returns-2
-    returns-3
-    returns-4
-    returns-5)
+pub returns : goal.returns
+returns c = of_other c.before.before.args.x c.before.if-x.false c.if-x-2.false

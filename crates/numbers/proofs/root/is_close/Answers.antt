@@ -1,10 +1,9 @@
 -- `numbers::root::is_close` meets its contract: where off is small, neither it nor d has wrapped, but for what is below
 -- 0. Assumes nothing.
-use Rattle.std.proofs.Common.{◌≡◌, ℕ, ◌+◌, ◌*◌, ◌/◌, ◌%◌, ◌^◌, ◌<◌, ◌≤◌, mul-le-mul, arith, rules, ltb-true}
+use Rattle.std.proofs.Common.{◌≡◌, ℕ, ◌+◌, ◌*◌, ◌/◌, ◌%◌, ◌^◌, ◌<◌, ◌≤◌, mul-le-mul, arith, ltb-true}
 use mathlib.Core.Bool.{false≢true}
 use Rattle.numbers.proofs.Excess.{squared}
-use Rattle.numbers.proofs.root.is_close.Statement.{statement}
-use Rattle.numbers.proofs.root.is_close.Tie as tie
+use Rattle.numbers.proofs.root.is_close.Goals as goal
 
 -- z is off, moved up so that it is not below 0
 raised : (p d off z : ℕ) → p < 2 ^ 53 → (off + p / 2 ^ 20) % 2 ^ 64 ≡ d → z ≡ (off + 2 ^ 15) % 2 ^ 64 → z < 2 ^ 16 →
@@ -21,35 +20,31 @@ near : (m n s p l z : ℕ) → n ≡ s * 2 ^ 42 + p * 2 ^ 22 + l → m + 2 ^ 15 
     (n ≤ m * 2 ^ 42 + 2 ^ 58) × (m * 2 ^ 42 ≤ n + 2 ^ 58)
 near m n s p l z e u h k = (omega arith, omega arith)
 
-returns-2 : tie.Need-returns-2
-returns-2 c e =
-    let k = c.before in
-    let start = k.before.before.before in
+pub returns-then-g-ne1 : goal.returns-then-g-ne1
+returns-then-g-ne1 c e = absurd (false≢true e)
+
+pub overflow_mul-a : goal.overflow_mul-a
+overflow_mul-a c = omega (arith, squared c.args.g (omega arith))
+
+pub overflow_mul-a-2 : goal.overflow_mul-a-2
+overflow_mul-a-2 c = omega (arith, squared c.args.g (omega arith))
+
+pub returns : goal.returns
+returns c e =
+    let k = c in
+    let start = k in
     let m = start.args.m in
     let g = start.args.g in
     let a = g / 2 ^ 21 in
     let b = g % 2 ^ 21 in
-    let d = k.before.wrapping-sub-u64.result in
-    let z = c.wrapping-add-u64.result in
+    let d = k.wrapping_sub_u64-d.result in
+    let z = c.wrapping_add_u64.result in
     let l = ltb-true z (2 ^ 16) e in
     let r = squared g (omega arith) in
     let least : 2 ^ 62 ≤ a * a = let i : 2 ^ 31 ≤ a = omega arith in mul-le-mul i i in
-    let x = raised (a * b) d k.wrapping-sub-u642.result z r.cross k.wrapping-sub-u642.ensures
-    c.wrapping-add-u64.ensures l in
+    let x = raised (a * b) d k.wrapping_sub_u64-off.result z r.cross k.wrapping_sub_u64-off.ensures.value
+    c.wrapping_add_u64.ensures.value l in
     let y = unwrapped m (a * a) d (a * b) z (omega arith) (omega (arith, start.ranges)) least r.upper r.cross l x
-    k.before.wrapping-sub-u64.ensures in
+    k.wrapping_sub_u64-d.ensures.value in
     let n = near m (g * g) (a * a) (a * b) (b * b) z r.whole y r.lower l in
     (omega arith, omega arith, n.0, n.1)
-
-pub is_close_spec : {M : Type 1} → statement M
-is_close_spec =
-    tie.close
-    (tie.spec
-    (λ c e. absurd (false≢true e))
-    (λ c. omega (arith, squared c.before.args.g (omega arith)))
-    (λ c κs. search rules)
-    (λ c. omega (arith, squared c.before.before.args.g (omega arith)))
-    (λ c κs. search rules)
-    (λ c κs. search rules)
-    (λ c. search rules)
-    returns-2)

@@ -1,8 +1,7 @@
 -- `numbers::root::excess` meets its contract: what wraps is a multiple of 2 ^ 64. Assumes nothing.
-use Rattle.std.proofs.Common.{◌≡◌, ℕ, ◌+◌, ◌*◌, ◌/◌, ◌%◌, ◌^◌, arith, rules}
+use Rattle.std.proofs.Common.{◌≡◌, ℕ, ◌+◌, ◌*◌, ◌/◌, ◌%◌, ◌^◌, arith}
 use Rattle.numbers.proofs.Excess.{Squared, squared}
-use Rattle.numbers.proofs.root.excess.Statement.{statement}
-use Rattle.numbers.proofs.root.excess.Tie as tie
+use Rattle.numbers.proofs.root.excess.Goals as goal
 
 -- multiples of 2 ^ 64 wrap to nothing
 same : (x y i j : ℕ) → x + i * 2 ^ 64 ≡ y + j * 2 ^ 64 → x % 2 ^ 64 ≡ y % 2 ^ 64
@@ -30,10 +29,19 @@ wrapped m g s p l d t o r a b c e =
     (unwrapped m g s p l d x y t o r i j k n₁ n₂ n₃ (omega arith) (omega arith) (omega arith) (omega arith)
     (omega arith) (omega arith))
 
-of : (c : tie.Start) → Squared c.args.g
+of : (c : goal.Start) → Squared c.args.g
 of c = squared c.args.g (omega arith)
 
-returns : tie.Need-returns
+pub overflow_mul-a : goal.overflow_mul-a
+overflow_mul-a c = omega (arith, of c)
+
+pub overflow_mul-a-2 : goal.overflow_mul-a-2
+overflow_mul-a-2 c = omega (arith, of c.before)
+
+pub overflow_mul-c : goal.overflow_mul-c
+overflow_mul-c c = omega (arith, of c.before)
+
+pub returns : goal.returns
 returns c =
     let d = c.before.before.before in
     let start = d.before in
@@ -41,19 +49,6 @@ returns c =
     let a = g / 2 ^ 21 in
     let b = g % 2 ^ 21 in
     rw (of start).whole
-    (wrapped start.args.m g (a * a) (a * b) (b * b) d.wrapping-sub-u64.result _ _ _
-    d.wrapping-sub-u64.ensures c.before.before.wrapping-add-u64.ensures
-    c.before.wrapping-add-u642.ensures c.wrapping-sub-u642.ensures)
-
-pub excess_spec : {M : Type 1} → statement M
-excess_spec =
-    tie.close
-    (tie.spec
-    (λ c. omega (arith, of c))
-    (λ c κs. search rules)
-    (λ c. omega (arith, of c.before))
-    (λ c. omega (arith, of c.before))
-    (λ c κs. search rules)
-    (λ c κs. search rules)
-    (λ c κs. search rules)
-    returns)
+    (wrapped start.args.m g (a * a) (a * b) (b * b) d.wrapping_sub_u64-d.result _ _ _
+    d.wrapping_sub_u64-d.ensures.value c.before.before.wrapping_add_u64-square.ensures.value
+    c.before.wrapping_add_u64.ensures.value c.wrapping_sub_u64.ensures.value)

@@ -1,14 +1,13 @@
 -- `numbers::root::near_one` meets its contract: b is j * 2 or j * 2 + 1 units in the last place above 1, or as many
 -- below it, where they are half as large, and j * j is small beside 2 ^ 52. Assumes nothing.
-use Rattle.std.proofs.Common.{◌≡◌, ℕ, ◌+◌, ◌-◌, ◌*◌, ◌/◌, ◌%◌, ◌^◌, ◌<◌, ◌≤◌, refl, ap, ◌∙◌, mul-le-mul, mul-le-mul_left, lt_of_not-le, arith, rules}
+use Rattle.std.proofs.Common.{◌≡◌, ℕ, ◌+◌, ◌-◌, ◌*◌, ◌/◌, ◌%◌, ◌^◌, ◌<◌, ◌≤◌, refl, ap, ◌∙◌, mul-le-mul, mul-le-mul_left, lt_of_not-le, arith}
 use native.Mathlib.Decide.{dec_le}
 use lib.Ieee.{binary64, of_bits}
 use Rattle.numbers.specs.Root.{root_units}
 use Rattle.numbers.specs.Parts.{Near, pattern_units}
 use Rattle.numbers.proofs.Patterns.{within}
 use Rattle.numbers.proofs.Scale.{root_bits, normal_scale}
-use Rattle.numbers.proofs.root.near_one.Statement.{statement}
-use Rattle.numbers.proofs.root.near_one.Tie as tie
+use Rattle.numbers.proofs.root.near_one.Goals as goal
 
 abbrev 1' : ℕ
 1' = 0x3ff0_0000_0000_0000
@@ -48,17 +47,11 @@ below b v l h p =
     (near (omega arith) (omega arith) (omega arith))
     (omega arith)
 
-add-result : tie.Need-overflow-add-result
-add-result c = search rules
+pub float_from_bits-result : goal.float_from_bits-result
+float_from_bits-result c = within _ (omega arith)
 
-float-from-bits-result : tie.Need-float-from-bits-result
-float-from-bits-result c = within _ (omega arith)
-
-returns : tie.Need-returns
+pub returns : goal.returns
 returns c = elim (dec_le 1' c.args.b) [
   | yes l ↦ above c.args.b _ l (omega arith) (omega arith)
   | no l ↦ let g = lt_of_not-le l in below c.args.b _ g (omega arith) (omega arith)
 ]
-
-pub near_one_spec : {M : Type 1} → statement M
-near_one_spec = tie.close (tie.spec add-result float-from-bits-result returns)

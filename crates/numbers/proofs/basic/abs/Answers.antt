@@ -7,8 +7,7 @@ use lib.Ieee.Scale.{round_same}
 use Rattle.numbers.specs.Basic.{magnitude}
 use Rattle.numbers.proofs.Rounds.{own}
 use Rattle.numbers.proofs.Signs.{Positive, infinity, plus, positive}
-use Rattle.numbers.proofs.basic.abs.Statement.{statement}
-use Rattle.numbers.proofs.basic.abs.Tie as tie
+use Rattle.numbers.proofs.basic.abs.Goals as goal
 
 above : {x : Float} → Positive x → x ≡ magnitude x
 unfolding magnitude
@@ -47,11 +46,8 @@ less (fin false (suc m) e) h k =
     let p = mul-pos (zero-lt-suc m) (up_pos e) in
     absurd (omega (arith, ltb-false (0 * 1 * down e) (suc m * up e * 1) k))
 
-returns : tie.Need-returns
-returns c = above (positive c.before.args.x c.if1.true)
+pub returns-then-x : goal.returns-then-x
+returns-then-x c = above (positive c.args.x c.if-x.true)
 
-returns-2 : tie.Need-returns-2
-returns-2 c = less c.before.args.x (passes _ c.before.well-formed.0.1) c.if1.false
-
-pub abs_spec : {M : Type 1} → statement M
-abs_spec = tie.close (tie.spec returns returns-2)
+pub returns-else-x : goal.returns-else-x
+returns-else-x c = less c.args.x (passes _ c.well_formed.0.1) c.if-x.false

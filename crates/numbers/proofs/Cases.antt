@@ -1,3 +1,12 @@
 -- Imported here, the known values are checked before most laws, so that a wrong rule is refused by a case first.
 -- Assumes nothing.
-pub use Rattle.numbers.specs.Known.{each_row}
+use Rattle.numbers.specs.Arithmetic.{decimal}
+use Rattle.numbers.specs.Basic.{clamped, infinite, larger, magnitude, negative}
+use Rattle.numbers.specs.Known.{knowns, rows, rules}
+use Rattle.numbers.specs.Root.{root}
+use Rattle.std.specs.Float.Ieee.{add, div, eq, is_nan, le, lt, mul, neg, of_bits, sub, to_bits}
+use Rattle.std.specs.Prelude.{refl, ◌≡◌}
+
+pub each_row : rules rows ≡ knowns rows
+unfolding rows decimal root magnitude negative larger clamped infinite neg add sub mul div lt le eq is_nan of_bits to_bits
+each_row = refl

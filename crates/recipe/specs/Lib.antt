@@ -1,6 +1,5 @@
 pub mod Endian
 pub mod Record
-pub mod Edges
 pub mod Scan
 pub mod Length
 pub mod Source

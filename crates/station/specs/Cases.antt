@@ -97,14 +97,3 @@ cases =
     -- one surface: its record, and blanks where it is refused
     (shown_row (told_row (reach_of plane_record ray 1f 0)) ⇒ 1 ∷ 0 ∷ bits hit_record) ∷
     (shown_row (told_row (reach_of (plane_record ++ 0 ∷ []) ray 1f 1)) ⇒ 10 ∷ 44 ∷ bits (replicate 13 0f)) ∷ []
-
-pub each_case : agree cases ≡ true
-unfolding cases bits ◌over◌ ray_of passes_in outcome_in state_in counts_of numbers_of continued bytes patterns plane_record
-    decimal magnitude negative larger clamped infinite root neg round add sub mul div lt le eq is_nan of_bits to_bits of_int
-    dot_of vector_length over_of distance point_at all_finite ray_finite every_finite turned_if negated_if bent refracted
-    landed_within plane_crossing conic_crossing conic_normal gradient_normal normal_at pass_answer limit_of surface_normal
-    onward_from turn_answer u16_at u32_at u64_at number_at numbers_at slot_at length_fits formed_at shaped_at semi_slot kind_of
-    odd_count even_count coefficients_at optic_at record_at scan notes boundary_of share leg_finite leg_of beam_after hit_row
-    row_of state_after surface_left step_on move advance outcome_known place_fits passes_fit beam_good fits_of refused_answer
-    ray_admission admission start_at start_of continue_of surface_end unbroken reach_of
-each_case = refl

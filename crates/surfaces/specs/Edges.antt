@@ -429,20 +429,3 @@ cases =
     (direction (reflect_answer z backwards) ⇒ direction (gives (vec 0f 0f (neg 1f)))) ∷
     (direction (reflect_answer (vec (whole 35) (neg 4f) (whole 28)) (vec 1f 4f (whole 8)))
     ⇒ 1 ∷ 0 ∷ 0 ∷ 0x3FE4_9F49_F49F_49F5 ∷ 0xBFE3_E93E_93E9_3E94 ∷ 0xBFDC_71C7_1C71_C71C ∷ []) ∷ []
-
-pub each_case : agree cases ≡ true
-unfolding cases bits ◌over◌ decimal magnitude negative larger clamped infinite root neg add sub mul div lt le eq is_nan
-    of_bits of_int dot_of over_of distance point_at all_finite ray_finite both_finite landing_finite hit_finite every_finite
-    coefficients_good turned_if negated_if mirrored reflected reflect_answer bent refracted refract_answer curvature_of
-    from_radius_answer from_curvature_answer conic_sag conic_sag_answer gradient_normal conic_normal conic_normal_answer
-    conic_finite landed_within plane_crossing near_sag first_on kept first_root second_root ascending quadratic_of sign_of
-    curved_crossing conic_crossing normal_at hit_at conic_meet conic_meet_answer arrived_at moved_by pass_at vertex_plane
-    passes_from newton_end pass_start next_pass limited_pass power_sum_from slope_sum_from edge_root base_sag base_slope even_sag
-    even_slope radial_slopes even_slopes length_of facing_of normal_of even_facing even_normal even_good even_sag_answer
-    even_slope_answer even_paraxial_answer even_crossing_answer odd_sag odd_base_slope odd_slope odd_on_axis odd_slopes_at odd_normal
-    odd_slopes odd_good odd_sag_answer odd_normal_answer odd_crossing_answer numerator_of biconic_radicand biconic_sag on_axis
-    meridian_slope biconic_slopes_at biconic_slopes biconic_normal biconic_good biconic_sag_answer biconic_slopes_answer
-    biconic_normal_answer biconic_crossing_answer base_curve_radicand base_curve_sag circle_sag toroid_sag slope_radicand
-    base_curve_slope circle_slopes_at circle_slopes toroid_slopes toroid_normal toroid_good toroid_sag_answer toroid_slopes_answer
-    toroid_crossing_answer pass_answer surface_end surface_normal onward_from turn_answer
-each_case = refl

@@ -348,18 +348,3 @@ cases =
     -- the index, which is finite and positive
     (answered lens (map (λ n. state 1 44 0 0f (beam zeros z n 1f) 1 0) (1f ∷ inf false ∷ nan ∷ 0f ∷ neg 1f ∷ [])) ⇒
     1 ∷ 12 ∷ 12 ∷ 12 ∷ 12 ∷ []) ∷ []
-
-pub each_case : agree cases ≡ true
-unfolding cases lens folded pointed narrow on asked ending answered bits ◌over◌ bytes patterns beam_record plane_record
-    decimal magnitude negative larger clamped infinite root neg round add sub mul div lt le eq is_nan of_bits to_bits of_int
-    dot_of vector_length over_of distance point_at all_finite ray_finite every_finite turned_if negated_if mirrored reflected
-    bent refracted landed_within plane_crossing conic_crossing normal_at arrived_at moved_by pass_at vertex_plane passes_from
-    newton_end pass_start next_pass limited_pass power_sum_from slope_sum_from base_sag base_slope even_sag even_slope radial_slopes
-    even_slopes length_of facing_of normal_of even_facing even_normal odd_sag odd_base_slope odd_slope odd_on_axis odd_slopes_at
-    odd_normal odd_slopes pass_answer surface_end limit_of surface_normal onward_from turn_answer u16_at u32_at u64_at number_at
-    numbers_at slot_at length_fits formed_at shaped_at semi_slot kind_of odd_count even_count coefficients_at optic_at negative_semi
-    record_at scan place_of notes is_source vector_at source_of boundary_of share leg_finite leg_of beam_after hit_row refusal_row
-    row_of unbroken total rows padded paused_at state_after surface_left step_on move advance outcome_known place_fits
-    passes_fit beam_good fits_of refused_answer ray_admission admission start_at start_of start_file_of continue_of whole_of
-    reach_of
-each_case = refl

@@ -1,4 +1,5 @@
 -- Laws that several proofs use, and what the listing shows.
+mod Cases
 mod Buffers
 mod Widths
 mod Marks

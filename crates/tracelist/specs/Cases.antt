@@ -107,16 +107,3 @@ cases =
     (plane_record prints "refused 10 0" ∷ []) ∷
     (beam_record ++ plane_record ++ inverted prints "refused 3 104" ∷ []) ∷
     (no_index ++ plane_record prints "refused 4 0" ∷ []) ∷ []
-
-pub each_case : agree cases ≡ true
-unfolding cases record_of off_axis pointer pane bowl inverted no_index ◌&◌ lined of_bits to_bits of_int to_unsigned neg round
-    add sub mul div lt le eq is_nan decimal magnitude negative larger clamped infinite root dot_of vector_length over_of
-    distance point_at all_finite ray_finite every_finite turned_if negated_if bent refracted landed_within plane_crossing
-    conic_crossing conic_normal gradient_normal normal_at arrived_at moved_by pass_at vertex_plane passes_from newton_end
-    power_sum_from slope_sum_from edge_root base_sag base_slope even_sag even_slope radial_slopes even_slopes length_of facing_of
-    even_facing even_normal surface_end surface_normal onward_from turn_answer u16_at u32_at u64_at number_at numbers_at slot_at
-    length_fits formed_at shaped_at semi_slot kind_of odd_count even_count coefficients_at optic_at negative_semi record_at scan
-    is_source vector_at source_of glyph hex_text decimal_text boundary_of share leg_finite leg_of beam_after hit_row refusal_row
-    row_of unbroken total refused_answer ray_admission admission start_at start_file_of trace_of bytes patterns beam_record
-    plane_record ascii line record_line record_lines end_line refused_line trace_lines listing
-each_case = refl

@@ -74,7 +74,7 @@ const COEFFICIENTS: usize = LENGTH_EVEN_ASPHERE / NUMBER_BYTES;
 const COEFFICIENTS_PLACE: usize = LENGTH_BYTES + LENGTH_EVEN_ASPHERE;
 
 // A surface, and the index behind it, which a mirror does not use.
-#[derive(Drop)]
+#[derive(Clone, Copy)]
 pub struct Optic {
     pub surface: Surface,
     pub mirror: bool,
@@ -82,7 +82,7 @@ pub struct Optic {
 }
 
 // 1, the next record's place and the surface, or 10.
-#[derive(Drop)]
+#[derive(Clone, Copy)]
 pub struct ReadRecord {
     pub number: u8,
     pub next: usize,

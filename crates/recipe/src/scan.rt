@@ -12,7 +12,7 @@ use crate::record::{
 use surfaces::{ACCEPTED, BAD_PARAMETER, NEGATIVE_SEMI_DIAMETER, SINGULAR, limit};
 
 // What a look at one record says: 1, the next record's place and the surface's limit, or a refusal.
-#[derive(Drop)]
+#[derive(Clone, Copy)]
 pub(crate) struct Seen {
     pub number: u8,
     pub next: usize,
@@ -20,7 +20,7 @@ pub(crate) struct Seen {
 }
 
 // What a check of a recipe says.
-#[derive(Drop)]
+#[derive(Clone, Copy)]
 pub struct Checked {
     // 1, or the refusal and its record's place
     pub number: u8,

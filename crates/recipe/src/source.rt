@@ -21,7 +21,7 @@ const DIRECTION: usize = 3;
 const INDEX: usize = 6;
 
 // 1, the ray and the index that it starts in, or 10.
-#[derive(Drop)]
+#[derive(Clone, Copy)]
 pub struct Source {
     pub number: u8,
     pub ray: Ray,

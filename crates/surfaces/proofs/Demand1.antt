@@ -170,14 +170,14 @@ unfolding limited_pass next_pass one_of
 by_way vertex ray made t (whole q) = search crossed
 by_way vertex ray made t (passes q) = search (either_tells, pass_from)
 
-chain_by : (w : Way) (vertex : Float) (ray : Ray) (left made : ℕ) (t : Float) →
+chain_by_lem : (w : Way) (vertex : Float) (ray : Ray) (left made : ℕ) (t : Float) →
     Tells (one_of (0 ∷ ends)) (chain_by w vertex ray left made t).answer.line
 unfolding chain_by one_of
-chain_by w vertex ray zero made t = record { told = refl }
-chain_by w vertex ray (suc left) made t =
+chain_by_lem w vertex ray zero made t = record { told = refl }
+chain_by_lem w vertex ray (suc left) made t =
     let x = pass_by w vertex ray made t in
     either_ended _ (going x) (chain_by w vertex ray left (suc made) x.value.t) (ended x (suc made))
-    (chain_by w vertex ray left (suc made) x.value.t) (by_way vertex ray made t w)
+    (chain_by_lem w vertex ray left (suc made) x.value.t) (by_way vertex ray made t w)
 
 -- where all five numbers are finite, the first and the third are
 tested : (a b c d e : Bool) (m : Meridians) →
@@ -218,7 +218,7 @@ ruleset tells = (
   toroid_slopes_lem,
   normal,
   onward,
-  chain_by,
+  chain_by_lem,
   paraxial,
 )
 

@@ -2,41 +2,29 @@
 -- formulas where each of their terms counts: one list, which one theorem covers (P4). A row has a rule's answer and the
 -- one worked out by hand, each as a number of the table, the passes where there are any, and the bit patterns of all
 -- values. Assumes nothing.
-use Rattle.std.specs.Prelude.{ℕ, ◌+◌, ◌-◌, ◌*◌, ◌^◌, ◌≡◌, refl, Bool, true, false, ◌&&◌, List, [], ◌∷◌, ◌++◌, eqb, length, take, Float}
+use Rattle.std.specs.Prelude.{ℕ, ◌+◌, ◌-◌, ◌*◌, ◌^◌, Bool, true, false, ◌&&◌, List, [], ◌∷◌, ◌++◌, eqb, length, take, Float}
 use Rattle.std.specs.Float.{nan, inf, binary64}
-use Rattle.std.specs.Float.Ieee.{of_bits, to_bits, of_int, neg, round, add, sub, mul, div, lt, le, eq, is_nan}
-use Rattle.numbers.specs.Arithmetic.{if◌then◌else◌, decimal, 0f, ½, 1f, 2f, 4f, 1e-4}
-use Rattle.numbers.specs.Basic.{magnitude, negative, larger, clamped, infinite}
-use Rattle.numbers.specs.Root.{root}
-use Rattle.surfaces.specs.Types.{vec, backwards, dot_of, over_of, distance, point_at, all_finite, ray_finite, landing}
-use Rattle.surfaces.specs.Types.{both_finite, meridians, no_landing, landing_finite, no_hit, hit_finite}
-use Rattle.surfaces.specs.Types.{no_coefficients, polynomial, every_finite, coefficients_good}
+use Rattle.std.specs.Float.Ieee.{of_bits, to_bits, neg, round}
+use Rattle.numbers.specs.Arithmetic.{if◌then◌else◌, 0f, ½, 1f, 2f, 4f, 1e-4}
+use Rattle.surfaces.specs.Types.{vec, backwards, point_at, landing}
+use Rattle.surfaces.specs.Types.{meridians, no_landing, no_hit}
+use Rattle.surfaces.specs.Types.{no_coefficients, polynomial}
 use Rattle.surfaces.specs.Refusal.{Told, Ended, plain, vignetted, gives, refused, no_number, no_pair, no_direction}
 use Rattle.surfaces.specs.Refusal.{no_crossing, no_conic, no_leaving, again, ended}
-use Rattle.surfaces.specs.Snell.{turned_if, negated_if, mirrored, reflected, reflect_answer, bent, refracted}
+use Rattle.surfaces.specs.Snell.{reflect_answer}
 use Rattle.surfaces.specs.Snell.{refract_answer}
-use Rattle.surfaces.specs.Conic.{conic_surface, curvature_of, from_radius_answer, from_curvature_answer, conic_sag}
-use Rattle.surfaces.specs.Conic.{conic_sag_answer, gradient_normal, conic_normal, conic_normal_answer, conic_finite}
-use Rattle.surfaces.specs.Conic.{landed_within, plane_crossing, near_sag, first_on, kept, first_root, second_root}
-use Rattle.surfaces.specs.Conic.{ascending, quadratic_of, q_of, sign_of, curved_crossing, conic_crossing, normal_at}
-use Rattle.surfaces.specs.Conic.{hit_at, conic_meet, conic_meet_answer}
-use Rattle.surfaces.specs.Sags.{edge_root}
-use Rattle.surfaces.specs.Newton.{arrived_at, moved_by, pass_at, vertex_plane, passes_from, newton_end, pass_start}
-use Rattle.surfaces.specs.Newton.{next_pass, limited_pass}
-use Rattle.surfaces.specs.Asphere.{power_sum_from, slope_sum_from, base_sag, base_slope, even_sag, even_slope}
-use Rattle.surfaces.specs.Asphere.{radial_slopes, even_slopes, length_of, facing_of, normal_of, even_facing, even_normal}
-use Rattle.surfaces.specs.Asphere.{even_good, even_sag_answer, even_slope_answer, even_paraxial_answer}
-use Rattle.surfaces.specs.Asphere.{even_crossing_answer, odd_sag, odd_base_slope, odd_slope, odd_on_axis, odd_slopes_at}
-use Rattle.surfaces.specs.Asphere.{odd_normal, odd_slopes, odd_good, odd_sag_answer, odd_normal_answer}
+use Rattle.surfaces.specs.Conic.{conic_surface, from_radius_answer, from_curvature_answer}
+use Rattle.surfaces.specs.Conic.{conic_sag_answer, conic_normal_answer}
+use Rattle.surfaces.specs.Conic.{first_on, first_root, second_root}
+use Rattle.surfaces.specs.Conic.{ascending, quadratic_of, q_of}
+use Rattle.surfaces.specs.Conic.{conic_meet_answer}
+use Rattle.surfaces.specs.Asphere.{even_sag_answer, even_slope_answer, even_paraxial_answer}
+use Rattle.surfaces.specs.Asphere.{even_crossing_answer}
+use Rattle.surfaces.specs.Asphere.{odd_slopes, odd_sag_answer, odd_normal_answer}
 use Rattle.surfaces.specs.Asphere.{odd_crossing_answer}
-use Rattle.surfaces.specs.Biconic.{numerator_of, biconic_radicand, biconic_sag, on_axis, meridian_slope}
-use Rattle.surfaces.specs.Biconic.{biconic_slopes_at, biconic_slopes, biconic_normal, biconic_good}
 use Rattle.surfaces.specs.Biconic.{biconic_sag_answer, biconic_slopes_answer, biconic_normal_answer}
-use Rattle.surfaces.specs.Biconic.{biconic_crossing_answer, base_curve_radicand, base_curve_sag, circle_sag, toroid_sag}
-use Rattle.surfaces.specs.Biconic.{slope_radicand, base_curve_slope, circle_slopes_at, circle_slopes, toroid_slopes}
-use Rattle.surfaces.specs.Biconic.{toroid_normal, toroid_good, toroid_sag_answer, toroid_slopes_answer}
-use Rattle.surfaces.specs.Biconic.{toroid_crossing_answer}
-use Rattle.surfaces.specs.Surface.{pass_answer, surface_end, surface_normal, onward_from, turn_answer}
+use Rattle.surfaces.specs.Biconic.{toroid_sag_answer, toroid_slopes_answer}
+use Rattle.surfaces.specs.Surface.{pass_answer, surface_end, turn_answer}
 use Rattle.surfaces.specs.declared.types.Vec3.{Vec3}
 use Rattle.surfaces.specs.declared.types.Ray.{Ray}
 use Rattle.surfaces.specs.declared.types.Landing.{Landing}

@@ -24,7 +24,7 @@ use crate::types::{
 use numbers::{is_finite, sqrt};
 
 // Rust's curvature, conic_constant, semi_diameter_mm and coefficients.
-#[derive(Drop)]
+#[derive(Clone, Copy)]
 pub struct EvenAsphere {
     pub curvature: f64,
     pub conic: f64,
@@ -33,7 +33,7 @@ pub struct EvenAsphere {
 }
 
 // The surface stands beside its acceptance, blank where it is refused.
-#[derive(Drop)]
+#[derive(Clone, Copy)]
 pub struct NewEven {
     pub acceptance: Acceptance,
     pub surface: EvenAsphere,
@@ -213,7 +213,7 @@ impl EvenAsphere {
 }
 
 // Rust's curvature, conic_constant, semi_diameter_mm, even_coefficients and odd_coefficients.
-#[derive(Drop)]
+#[derive(Clone, Copy)]
 pub struct OddAsphere {
     pub curvature: f64,
     pub conic: f64,
@@ -222,7 +222,7 @@ pub struct OddAsphere {
     pub odd: Coefficients,
 }
 
-#[derive(Drop)]
+#[derive(Clone, Copy)]
 pub struct NewOdd {
     pub acceptance: Acceptance,
     pub surface: OddAsphere,

@@ -26,7 +26,7 @@ use crate::sags::{
 use crate::types::{Meridians, Ray, no_polynomial};
 use numbers::{is_finite, sqrt};
 
-#[derive(Drop)]
+#[derive(Clone, Copy)]
 pub struct BiconicSurface {
     pub cx: f64,
     pub kx: f64,
@@ -35,7 +35,7 @@ pub struct BiconicSurface {
     pub semi: f64,
 }
 
-#[derive(Drop)]
+#[derive(Clone, Copy)]
 pub enum NewBiconic {
     Given(BiconicSurface),
     Refused(Refusal),
@@ -162,7 +162,7 @@ impl BiconicSurface {
     }
 }
 
-#[derive(Drop)]
+#[derive(Clone, Copy)]
 pub struct ToroidalSurface {
     pub rx: f64,
     pub cy: f64,
@@ -170,7 +170,7 @@ pub struct ToroidalSurface {
     pub semi: f64,
 }
 
-#[derive(Drop)]
+#[derive(Clone, Copy)]
 pub enum NewToroid {
     Given(ToroidalSurface),
     Refused(Refusal),

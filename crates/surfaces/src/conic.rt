@@ -24,7 +24,7 @@ use numbers::{abs, is_finite, is_infinite, is_nan, max, root_exceeds, sqrt};
 const CONIC_EDGE: f64 = 0.0;
 
 // Rust's vertex_z, curvature, conic_constant and semi_diam_mm.
-#[derive(Drop)]
+#[derive(Clone, Copy)]
 pub struct ConicSurface {
     pub vertex: f64,
     pub curvature: f64,
@@ -32,13 +32,13 @@ pub struct ConicSurface {
     pub semi: f64,
 }
 
-#[derive(Drop)]
+#[derive(Clone, Copy)]
 pub enum NewConic {
     Given(ConicSurface),
     Refused(Refusal),
 }
 
-#[derive(Drop)]
+#[derive(Clone, Copy)]
 pub enum Meet {
     Given(HitRecord),
     Refused(Refusal),
@@ -276,7 +276,7 @@ fn cross_two(ray: Ray, s: ConicSurface, t: f64, u: f64) -> Crossing
 }
 
 // A candidate, if it is kept.
-#[derive(Drop)]
+#[derive(Clone, Copy)]
 pub(crate) enum Root {
     Dropped,
     Kept(f64),
@@ -335,7 +335,7 @@ fn cross_roots(ray: Ray, s: ConicSurface, x: Root, y: Root) -> Crossing
 
 // A t² + B t + C is c (x² + y²) - 2 z + (1 + k) c z² at the ray's point, with z from the vertex: 0 on the whole
 // quadric.
-#[derive(Drop)]
+#[derive(Clone, Copy)]
 pub(crate) struct Quadratic {
     pub a: f64,
     pub b: f64,

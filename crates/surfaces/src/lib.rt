@@ -1,5 +1,7 @@
 // Optical surfaces as in the Rust: where a ray meets one, and how it goes on. No function asks anything of its caller,
 // and each says what it answers to every argument.
+#![tactic(auto)]
+
 mod asphere;
 mod biconic;
 mod conic;

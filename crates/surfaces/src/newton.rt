@@ -31,7 +31,7 @@ pub const STEPS_BICONIC: u16 = 35;
 pub const STEPS_TOROID: u16 = 35;
 
 // The kinds that Newton's method meets.
-#[derive(Drop)]
+#[derive(Clone, Copy)]
 pub(crate) enum Profile {
     Asphere { c: f64, k: f64, odd: bool },
     Biconic { cx: f64, kx: f64, cy: f64, ky: f64 },
@@ -39,7 +39,7 @@ pub(crate) enum Profile {
 }
 
 // What a pass comes to: a hit, a refusal, or the t of the next pass.
-#[derive(Drop)]
+#[derive(Clone, Copy)]
 pub enum Passed {
     Given(Landing),
     Refused(Refusal),
@@ -47,7 +47,7 @@ pub enum Passed {
 }
 
 // How far passes came: what the last one came to, and how many they were.
-#[derive(Drop)]
+#[derive(Clone, Copy)]
 pub struct Progress {
     pub passed: Passed,
     pub taken: u16,

@@ -29,7 +29,7 @@ pub const TOTAL_REFLECTION: u8 = 8;
 pub const NOT_FINITE: u8 = 9;
 
 // The numbers 2 to 9, under the names of Rust's OpticsError; NotFinite is added.
-#[derive(Drop)]
+#[derive(Clone, Copy)]
 pub enum Refusal {
     InvalidParameter,
     InvalidSurface,
@@ -42,7 +42,7 @@ pub enum Refusal {
 }
 
 // A line of SCOPE's table (T1): its number, and r and the semi-diameter, which a 7 names and no other.
-#[derive(Drop)]
+#[derive(Clone, Copy)]
 pub struct Line {
     pub number: u8,
     pub r: f64,
@@ -79,37 +79,37 @@ pub fn line_of(e: Refusal) -> Line
 }
 
 // Whether a surface is accepted that stands beside, since no enum holds an array.
-#[derive(Drop)]
+#[derive(Clone, Copy)]
 pub enum Acceptance {
     Given,
     Refused(Refusal),
 }
 
-#[derive(Drop)]
+#[derive(Clone, Copy)]
 pub enum Number {
     Given(f64),
     Refused(Refusal),
 }
 
-#[derive(Drop)]
+#[derive(Clone, Copy)]
 pub enum Sag {
     Given(f64),
     Refused(Refusal),
 }
 
-#[derive(Drop)]
+#[derive(Clone, Copy)]
 pub enum Pair {
     Given(Meridians),
     Refused(Refusal),
 }
 
-#[derive(Drop)]
+#[derive(Clone, Copy)]
 pub enum Direction {
     Given(Vec3),
     Refused(Refusal),
 }
 
-#[derive(Drop)]
+#[derive(Clone, Copy)]
 pub enum Crossing {
     Given(Landing),
     Refused(Refusal),

@@ -24,7 +24,7 @@ const RADICAND_TOLERANCE: f64 = 1e-12;
 // A raw sag, with what the slopes at the same point need of it: its root; an asphere's r, a biconic's numerator or a
 // toroid's circle; and the root of a toroid's base curve. It names its refusals itself: a Refusal in here would slow
 // down every pass.
-#[derive(Drop)]
+#[derive(Clone, Copy)]
 pub(crate) enum Depth {
     Given {
         sag: f64,
@@ -37,7 +37,7 @@ pub(crate) enum Depth {
 }
 
 // The root of a radicand, or that the point is outside.
-#[derive(Drop)]
+#[derive(Clone, Copy)]
 pub(crate) enum EdgeRoot {
     Given(f64),
     Outside,

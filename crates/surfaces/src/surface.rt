@@ -17,7 +17,7 @@ pub const STEPS_CONIC: u16 = 1;
 
 // A conic has c and k; an asphere c and k, with its polynomial beside, and is an odd one or an even one; a biconic cx,
 // kx, cy and ky; a toroid rx, cy and ky. A fifth case would make each match a jump by a table, which costs every step.
-#[derive(Drop)]
+#[derive(Clone, Copy)]
 pub enum Kind {
     Conic { c: f64, k: f64 },
     Asphere { c: f64, k: f64, odd: bool },
@@ -25,7 +25,7 @@ pub enum Kind {
     Toroid { rx: f64, cy: f64, ky: f64 },
 }
 
-#[derive(Drop)]
+#[derive(Clone, Copy)]
 pub struct Surface {
     pub vertex: f64,
     pub semi: f64,
@@ -34,7 +34,7 @@ pub struct Surface {
 }
 
 // A conic is met as a whole, the other kinds by passes.
-#[derive(Drop)]
+#[derive(Clone, Copy)]
 pub(crate) enum Family {
     Conic { c: f64, k: f64 },
     Newton(Profile),
@@ -95,21 +95,21 @@ pub fn limit(kind: Kind) -> u16
 }
 
 // What lies behind a surface: nothing for a mirror, or a medium; the index before it and the index after.
-#[derive(Drop)]
+#[derive(Clone, Copy)]
 pub enum Boundary {
     Mirror,
     Media { before: f64, after: f64 },
 }
 
 // How a ray goes on: the normal where it landed, its new direction, and whether it came from the front.
-#[derive(Drop)]
+#[derive(Clone, Copy)]
 pub struct Leaving {
     pub normal: Vec3,
     pub direction: Vec3,
     pub front: bool,
 }
 
-#[derive(Drop)]
+#[derive(Clone, Copy)]
 pub enum Turned {
     Given(Leaving),
     Refused(Refusal),

@@ -5,14 +5,14 @@ ghost use Rattle.surfaces.specs.Types.{ray_finite, no_coefficients, no_polynomia
 
 use numbers::{is_finite, sqrt};
 
-#[derive(Drop)]
+#[derive(Clone, Copy)]
 pub struct Vec3 {
     pub x: f64,
     pub y: f64,
     pub z: f64,
 }
 
-#[derive(Drop)]
+#[derive(Clone, Copy)]
 pub struct Ray {
     pub origin: Vec3,
     pub direction: Vec3,
@@ -43,13 +43,13 @@ pub fn no_ray() -> Ray
 }
 
 // Where a ray comes to a surface: so far along the ray, at this point.
-#[derive(Drop)]
+#[derive(Clone, Copy)]
 pub struct Landing {
     pub t: f64,
     pub point: Vec3,
 }
 
-#[derive(Drop)]
+#[derive(Clone, Copy)]
 pub struct HitRecord {
     pub t: f64,
     pub point: Vec3,
@@ -58,7 +58,7 @@ pub struct HitRecord {
 }
 
 // One number for each meridian: slopes, or curvatures.
-#[derive(Drop)]
+#[derive(Clone, Copy)]
 pub struct Meridians {
     pub x: f64,
     pub y: f64,
@@ -67,14 +67,14 @@ pub struct Meridians {
 pub const MOST_COEFFICIENTS: usize = 8;
 
 // The first `count` values are the coefficients, and the others are not read.
-#[derive(Drop)]
+#[derive(Clone, Copy)]
 pub struct Coefficients {
     pub count: usize,
     pub values: [f64; MOST_COEFFICIENTS],
 }
 
 // An asphere's coefficients of even and of odd powers of r, which go about together.
-#[derive(Drop)]
+#[derive(Clone, Copy)]
 pub struct Polynomial {
     pub even: Coefficients,
     pub odd: Coefficients,

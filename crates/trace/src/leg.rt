@@ -41,7 +41,7 @@ pub const BLANK: f64 = 0.0;
 pub const HIT: f64 = 1.0;
 
 // What goes from surface to surface.
-#[derive(Drop)]
+#[derive(Clone, Copy)]
 pub struct Beam {
     pub ray: Ray,
     pub index: f64,
@@ -49,7 +49,7 @@ pub struct Beam {
 }
 
 // A hit: so far along the ray, where, and how the beam goes on.
-#[derive(Drop)]
+#[derive(Clone, Copy)]
 pub struct Leg {
     pub t: f64,
     pub point: Vec3,
@@ -59,7 +59,7 @@ pub struct Leg {
     pub path: f64,
 }
 
-#[derive(Drop)]
+#[derive(Clone, Copy)]
 pub(crate) enum Ending {
     Given(Leg),
     Refused(Refusal),

@@ -27,7 +27,7 @@ pub const MOST_RECORDS: usize = 512;
 pub const MOST_ROOM: usize = MOST_RECORDS * RECORD_NUMBERS;
 
 // 1 or the refusal, the refused record's place, and the state.
-#[derive(Drop)]
+#[derive(Clone, Copy)]
 pub struct Answer {
     pub number: u8,
     pub place: usize,

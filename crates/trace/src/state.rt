@@ -15,7 +15,7 @@ pub const RUNNING: u8 = 0;
 pub const DONE: u8 = 1;
 
 // Surface number, place of its record, passes made on it and t so far, the beam before it, all steps and the outcome.
-#[derive(Drop)]
+#[derive(Clone, Copy)]
 pub struct State {
     pub number: usize,
     pub place: usize,

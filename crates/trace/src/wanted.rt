@@ -9,7 +9,7 @@ use recipe::check;
 use surfaces::{ACCEPTED, BAD_PARAMETER, Ray};
 
 // 1 or the refusal, the refused record's place, and the surface's record, blank where the beam ended before it.
-#[derive(Drop)]
+#[derive(Clone, Copy)]
 pub struct Reached {
     pub number: u8,
     pub place: usize,

@@ -1,0 +1,15 @@
+-- Drafted (tools/draft): opens Asphere.newEvenAnswer. By the tests and the calls, in order. Assumes nothing.
+use lib.Ieee.{of_bits}
+use Rattle.numbers.specs.Arithmetic.{decimal}
+use Rattle.surfaces.specs.Asphere.{new_even_answer}
+use Rattle.surfaces.proofs.asphere.EvenAsphere.new.Goals as goal
+
+pub returns-then-is_good-semi : goal.returns-then-is_good-semi
+unfolding new_even_answer decimal of_bits
+returns-then-is_good-semi c =
+    let c1 = c in let c2 = c1 in
+    rw (← c2.is_good.ensures, c1.if-is_good-semi.true, ← c.no_coefficients.ensures)
+
+pub returns : goal.returns
+unfolding new_even_answer decimal of_bits
+returns c = let c1 = c in rw (← c1.is_good.ensures, c.if-is_good-semi.false)

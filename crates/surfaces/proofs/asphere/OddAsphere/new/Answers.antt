@@ -1,0 +1,16 @@
+-- Drafted (tools/draft): opens Asphere.newOddAnswer; forward no-coefficients, no-coefficients2.
+-- By the tests and the calls, in order. Assumes nothing.
+use lib.Ieee.{of_bits}
+use Rattle.numbers.specs.Arithmetic.{decimal}
+use Rattle.surfaces.specs.Asphere.{new_odd_answer}
+use Rattle.surfaces.proofs.asphere.OddAsphere.new.Goals as goal
+
+pub returns-then-is_good-semi : goal.returns-then-is_good-semi
+unfolding new_odd_answer decimal of_bits
+returns-then-is_good-semi c =
+    let c1 = c in let c2 = c1 in let c3 = c2 in
+    rw (← c3.is_good.ensures, c2.if-is_good-semi.true, c1.no_coefficients.ensures, c.no_coefficients-then-is_good-semi.ensures)
+
+pub returns : goal.returns
+unfolding new_odd_answer decimal of_bits
+returns c = let c1 = c in rw (← c1.is_good.ensures, c.if-is_good-semi.false)

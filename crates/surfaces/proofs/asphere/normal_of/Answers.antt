@@ -1,0 +1,24 @@
+-- Drafted (tools/draft): opens Asphere.normalOf; refused by Refusals.never_done.
+-- By the tests and the calls, in order. Assumes nothing.
+use borrow.Author.Rules.{rules}
+use Rattle.surfaces.specs.Asphere.{normal_of}
+use Rattle.surfaces.proofs.Refusals.{never_done}
+use Rattle.surfaces.proofs.asphere.normal_of.Goals as goal
+
+pub enum_known-m : goal.enum_known-m
+unfolding normal_of
+enum_known-m c = search rules
+
+pub enum_known-m-in-Refused-1 : goal.enum_known-m-in-Refused-1
+unfolding normal_of
+enum_known-m-in-Refused-1 c = search rules
+
+pub returns-in-Given : goal.returns-in-Given
+unfolding normal_of
+returns-in-Given c =
+    let c1 = c in let c3 = c1 in
+    rw (c3.in-Given.is, ← c1.length_of.ensures, ← c.facing.ensures)
+
+pub returns-in-Refused : goal.returns-in-Refused
+unfolding normal_of
+returns-in-Refused c = let c1 = c in rw (c1.in-Refused.is, never_done)

@@ -1,0 +1,7 @@
+-- Drafted (tools/draft): opens Biconic.biconicNormal. By the tests and the calls, in order. Assumes nothing.
+use Rattle.surfaces.specs.Biconic.{biconic_normal}
+use Rattle.surfaces.proofs.biconic.raw_biconic_normal.Goals as goal
+
+pub returns : goal.returns
+unfolding biconic_normal
+returns c = let c1 = c in rw (← c1.raw_biconic_slopes.ensures, ← c.normal_of.ensures)

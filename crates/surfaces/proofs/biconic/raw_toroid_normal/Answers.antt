@@ -1,0 +1,7 @@
+-- Drafted (tools/draft): opens Biconic.toroidNormal. By the tests and the calls, in order. Assumes nothing.
+use Rattle.surfaces.specs.Biconic.{toroid_normal}
+use Rattle.surfaces.proofs.biconic.raw_toroid_normal.Goals as goal
+
+pub returns : goal.returns
+unfolding toroid_normal
+returns c = let c1 = c in rw (← c1.raw_toroid_slopes.ensures, ← c.normal_of.ensures)

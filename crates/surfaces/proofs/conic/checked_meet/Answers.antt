@@ -1,0 +1,42 @@
+-- Drafted (tools/draft): opens Types.hitFinite; refused by Refusals.never_done.
+-- By the tests and the calls, in order. Assumes nothing.
+use borrow.Author.Rules.{rules}
+use Rattle.surfaces.specs.Types.{hit_finite}
+use Rattle.surfaces.proofs.Refusals.{never_done}
+use Rattle.surfaces.proofs.conic.checked_meet.Goals as goal
+
+pub enum_known-a : goal.enum_known-a
+unfolding hit_finite
+enum_known-a c = search rules
+
+pub enum_told-1 : goal.enum_told-1
+unfolding hit_finite
+enum_told-1 c = search rules
+
+pub returns-then-is_finite-all_finite : goal.returns-then-is_finite-all_finite
+unfolding hit_finite
+returns-then-is_finite-all_finite c =
+    let c1 = c in let c2 = c1 in let c3 = c2 in let c7 = c3 in
+    rw (
+      c7.in-Given.is,
+      ← c3.is_finite.ensures,
+      ← c2.all_finite.ensures,
+      ← c1.all_finite-in-Given.ensures,
+      c.if-is_finite-all_finite.true,
+    )
+
+pub returns-else-is_finite-all_finite : goal.returns-else-is_finite-all_finite
+unfolding hit_finite
+returns-else-is_finite-all_finite c =
+    let c1 = c in let c2 = c1 in let c3 = c2 in let c7 = c3 in
+    rw (
+      c7.in-Given.is,
+      ← c3.is_finite.ensures,
+      ← c2.all_finite.ensures,
+      ← c1.all_finite-in-Given.ensures,
+      c.if-is_finite-all_finite.false,
+    )
+
+pub returns-in-Refused : goal.returns-in-Refused
+unfolding hit_finite
+returns-in-Refused c = rw (c.in-Refused.is, never_done)

@@ -1,0 +1,7 @@
+-- Drafted (tools/draft): opens Conic.conicSagAnswer. By the tests and the calls, in order. Assumes nothing.
+use Rattle.surfaces.specs.Conic.{conic_sag_answer}
+use Rattle.surfaces.proofs.conic.conic_sag.Goals as goal
+
+pub returns : goal.returns
+unfolding conic_sag_answer
+returns c = let c1 = c in rw (← c1.raw_conic_sag.ensures, ← c.checked_sag.ensures)

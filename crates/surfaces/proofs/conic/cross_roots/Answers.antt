@@ -1,0 +1,56 @@
+-- Drafted (tools/draft): opens Conic.firstOn, Conic.ascending. By the tests and the calls, in order. Assumes nothing.
+use borrow.Author.Rules.{rules}
+use Rattle.surfaces.specs.Conic.{first_on, ascending}
+use Rattle.surfaces.proofs.conic.cross_roots.Goals as goal
+
+pub enum_known-x : goal.enum_known-x
+unfolding first_on ascending
+enum_known-x c = search rules
+
+pub enum_known-y : goal.enum_known-y
+unfolding first_on ascending
+enum_known-y c = search rules
+
+pub enum_told-1 : goal.enum_told-1
+unfolding first_on ascending
+enum_told-1 c = search rules
+
+pub enum_told-in-Dropped : goal.enum_told-in-Dropped
+unfolding first_on ascending
+enum_told-in-Dropped c = search rules
+
+pub enum_known-y-in-Dropped : goal.enum_known-y-in-Dropped
+unfolding first_on ascending
+enum_known-y-in-Dropped c = search rules
+
+pub enum_told-in-Dropped-y-2 : goal.enum_told-in-Dropped-y-2
+unfolding first_on ascending
+enum_told-in-Dropped-y-2 c = search rules
+
+pub returns-then-u-t : goal.returns-then-u-t
+unfolding first_on ascending
+returns-then-u-t c =
+    let c1 = c in let c3 = c1 in let c6 = c3 in
+    rw (c6.in-Kept.is, c3.in-Kept-y.is, c1.if-u-t.true, ← c.cross_two.ensures)
+
+pub returns-else-u-t : goal.returns-else-u-t
+unfolding first_on ascending
+returns-else-u-t c =
+    let c1 = c in let c3 = c1 in let c6 = c3 in
+    rw (c6.in-Kept.is, c3.in-Kept-y.is, c1.if-u-t.false, ← c.cross_two-else-u-t.ensures)
+
+pub returns-in-Dropped-y : goal.returns-in-Dropped-y
+unfolding first_on ascending
+returns-in-Dropped-y c =
+    let c1 = c in let c4 = c1 in
+    rw (c4.in-Kept.is, c1.in-Dropped-y.is, ← c.cross_one.ensures)
+
+pub returns-in-Kept-y-2 : goal.returns-in-Kept-y-2
+unfolding first_on ascending
+returns-in-Kept-y-2 c =
+    let c2 = c in let c4 = c2 in
+    rw (c4.in-Dropped.is, c2.in-Kept-y-2.is, ← c.cross_one-in-Kept-y-2.ensures)
+
+pub returns-in-Dropped-y-2 : goal.returns-in-Dropped-y-2
+unfolding first_on ascending
+returns-in-Dropped-y-2 c = let c2 = c in rw (c2.in-Dropped.is, c.in-Dropped-y-2.is)

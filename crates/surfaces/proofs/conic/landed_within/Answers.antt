@@ -1,0 +1,13 @@
+-- Drafted (tools/draft): opens Conic.landedWithin. By the tests and the calls, in order. Assumes nothing.
+use Rattle.surfaces.specs.Conic.{landed_within}
+use Rattle.surfaces.proofs.conic.landed_within.Goals as goal
+
+pub returns-then-root_exceeds : goal.returns-then-root_exceeds
+unfolding landed_within
+returns-then-root_exceeds c =
+    let c1 = c in let c2 = c1 in
+    rw (← c2.root_exceeds.ensures, c1.if-root_exceeds.true, ← c.sqrt.ensures)
+
+pub returns-else-root_exceeds : goal.returns-else-root_exceeds
+unfolding landed_within
+returns-else-root_exceeds c = let c1 = c in rw (← c1.root_exceeds.ensures, c.if-root_exceeds.false)

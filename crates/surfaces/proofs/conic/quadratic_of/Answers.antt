@@ -1,0 +1,10 @@
+-- Drafted (tools/draft): opens Conic.quadraticOf. By the tests and the calls, in order. Assumes nothing.
+use mathlib.Core.Path.{refl}
+use lib.Ieee.{of_bits}
+use Rattle.numbers.specs.Arithmetic.{decimal}
+use Rattle.surfaces.specs.Conic.{quadratic_of}
+use Rattle.surfaces.proofs.conic.quadratic_of.Goals as goal
+
+pub returns : goal.returns
+unfolding quadratic_of decimal of_bits
+returns c = refl

@@ -1,0 +1,36 @@
+-- Drafted (tools/draft): opens Parts.depth_of. By the tests and the calls, in order. Assumes nothing.
+use borrow.Author.Rules.{rules}
+use Rattle.surfaces.specs.Parts.{depth_of}
+use Rattle.surfaces.proofs.newton.depth.Goals as goal
+
+pub enum_known-q : goal.enum_known-q
+unfolding depth_of
+enum_known-q c = search rules
+
+pub enum_known-q-in-Biconic-1 : goal.enum_known-q-in-Biconic-1
+unfolding depth_of
+enum_known-q-in-Biconic-1 c = search rules
+
+pub enum_known-q-in-Toroid-1 : goal.enum_known-q-in-Toroid-1
+unfolding depth_of
+enum_known-q-in-Toroid-1 c = search rules
+
+pub returns-then-odd : goal.returns-then-odd
+unfolding depth_of
+returns-then-odd c =
+    let c1 = c in let c2 = c1 in let c4 = c2 in
+    rw (c4.in-Asphere.is, c2.if-odd.true, ← c1.sqrt.ensures, ← c.odd_depth.ensures)
+
+pub returns-else-odd : goal.returns-else-odd
+unfolding depth_of
+returns-else-odd c =
+    let c1 = c in let c2 = c1 in let c4 = c2 in
+    rw (c4.in-Asphere.is, c2.if-odd.false, ← c1.sqrt-else-odd.ensures, ← c.even_depth.ensures)
+
+pub returns-in-Biconic : goal.returns-in-Biconic
+unfolding depth_of
+returns-in-Biconic c = let c2 = c in rw (c2.in-Biconic.is, ← c.biconic_depth.ensures)
+
+pub returns-in-Toroid : goal.returns-in-Toroid
+unfolding depth_of
+returns-in-Toroid c = let c2 = c in rw (c2.in-Toroid.is, ← c.toroid_depth.ensures)

@@ -1,0 +1,64 @@
+-- Drafted (tools/draft): opens Newton.limitedPass; refused by Refusals.never-going; after enum_told Shared.kind-alone _
+-- _ Types.noPolynomial _ numbers.Arithmetic.0f .1.
+-- By the tests and the calls, in order. Assumes nothing.
+use borrow.Author.Rules.{rules}
+use borrow.Author.Tests.{le-leb, lt-leb}
+use Rattle.numbers.specs.Arithmetic.{0f}
+use Rattle.surfaces.specs.Newton.{limited_pass}
+use Rattle.surfaces.proofs.Refusals.{never_going}
+use Rattle.surfaces.proofs.Shared.{kind_alone}
+use Rattle.surfaces.specs.Types.{no_polynomial}
+use Rattle.surfaces.proofs.newton.limited_pass.Goals as goal
+
+pub enum_told-1 : goal.enum_told-1
+unfolding limited_pass
+enum_told-1 c = search rules
+
+pub overflow_cast-profile_limit : goal.overflow_cast-profile_limit
+unfolding limited_pass
+overflow_cast-profile_limit c = search rules
+
+pub overflow_add-made : goal.overflow_add-made
+unfolding limited_pass
+overflow_add-made c = search rules
+
+pub enum_told-in-Given : goal.enum_told-in-Given
+unfolding limited_pass
+enum_told-in-Given c = search rules
+
+pub enum_told-in-Refused : goal.enum_told-in-Refused
+unfolding limited_pass
+enum_told-in-Refused c = search rules
+
+pub returns-then-profile_limit-made : goal.returns-then-profile_limit-made
+unfolding limited_pass
+returns-then-profile_limit-made c =
+    let c1 = c in let c2 = c1 in let c3 = c2 in let c5 = c3 in
+    rw (
+      ← c5.next_pass-x.ensures,
+      c3.in-Again.is,
+      (kind_alone _ _ no_polynomial _ 0f).1,
+      ← c2.profile_limit.ensures,
+      le-leb _ _ c1.if-profile_limit-made.true,
+      ← c.missed.ensures,
+    )
+
+pub returns-else-profile_limit-made : goal.returns-else-profile_limit-made
+unfolding limited_pass
+returns-else-profile_limit-made c =
+    let c1 = c in let c2 = c1 in let c4 = c2 in
+    rw (
+      ← c4.next_pass-x.ensures,
+      c2.in-Again.is,
+      (kind_alone _ _ no_polynomial _ 0f).1,
+      ← c1.profile_limit.ensures,
+      lt-leb _ _ c.if-profile_limit-made.false,
+    )
+
+pub returns-in-Given : goal.returns-in-Given
+unfolding limited_pass
+returns-in-Given c = let c2 = c in rw (← c2.next_pass-x.ensures, c.in-Given.is)
+
+pub returns-in-Refused : goal.returns-in-Refused
+unfolding limited_pass
+returns-in-Refused c = let c2 = c in rw (← c2.next_pass-x.ensures, c.in-Refused.is, never_going)

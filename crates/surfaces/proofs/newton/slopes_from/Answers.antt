@@ -1,0 +1,36 @@
+-- Drafted (tools/draft): opens Parts.slopesFrom. By the tests and the calls, in order. Assumes nothing.
+use borrow.Author.Rules.{rules}
+use Rattle.surfaces.specs.Parts.{slopes_from}
+use Rattle.surfaces.proofs.newton.slopes_from.Goals as goal
+
+pub enum_known-q : goal.enum_known-q
+unfolding slopes_from
+enum_known-q c = search rules
+
+pub enum_known-q-in-Biconic-1 : goal.enum_known-q-in-Biconic-1
+unfolding slopes_from
+enum_known-q-in-Biconic-1 c = search rules
+
+pub enum_known-q-in-Toroid-1 : goal.enum_known-q-in-Toroid-1
+unfolding slopes_from
+enum_known-q-in-Toroid-1 c = search rules
+
+pub returns-then-odd : goal.returns-then-odd
+unfolding slopes_from
+returns-then-odd c =
+    let c1 = c in let c3 = c1 in
+    rw (c3.in-Asphere.is, c1.if-odd.true, ← c.odd_slopes_from.ensures)
+
+pub returns-else-odd : goal.returns-else-odd
+unfolding slopes_from
+returns-else-odd c =
+    let c1 = c in let c3 = c1 in
+    rw (c3.in-Asphere.is, c1.if-odd.false, ← c.even_slopes_from.ensures)
+
+pub returns-in-Biconic : goal.returns-in-Biconic
+unfolding slopes_from
+returns-in-Biconic c = let c2 = c in rw (c2.in-Biconic.is, ← c.biconic_slopes_from.ensures)
+
+pub returns-in-Toroid : goal.returns-in-Toroid
+unfolding slopes_from
+returns-in-Toroid c = let c2 = c in rw (c2.in-Toroid.is, ← c.toroid_slopes_from.ensures)

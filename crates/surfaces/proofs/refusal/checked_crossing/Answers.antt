@@ -1,0 +1,30 @@
+-- Drafted (tools/draft): opens Types.landingFinite; refused by Refusals.never_done.
+-- By the tests and the calls, in order. Assumes nothing.
+use borrow.Author.Rules.{rules}
+use Rattle.surfaces.specs.Types.{landing_finite}
+use Rattle.surfaces.proofs.Refusals.{never_done}
+use Rattle.surfaces.proofs.refusal.checked_crossing.Goals as goal
+
+pub enum_known-a : goal.enum_known-a
+unfolding landing_finite
+enum_known-a c = search rules
+
+pub enum_told-1 : goal.enum_told-1
+unfolding landing_finite
+enum_told-1 c = search rules
+
+pub returns-then-is_finite-all_finite : goal.returns-then-is_finite-all_finite
+unfolding landing_finite
+returns-then-is_finite-all_finite c =
+    let c1 = c in let c2 = c1 in let c5 = c2 in
+    rw (c5.in-Given.is, ← c2.is_finite.ensures, ← c1.all_finite.ensures, c.if-is_finite-all_finite.true)
+
+pub returns-else-is_finite-all_finite : goal.returns-else-is_finite-all_finite
+unfolding landing_finite
+returns-else-is_finite-all_finite c =
+    let c1 = c in let c2 = c1 in let c5 = c2 in
+    rw (c5.in-Given.is, ← c2.is_finite.ensures, ← c1.all_finite.ensures, c.if-is_finite-all_finite.false)
+
+pub returns-in-Refused : goal.returns-in-Refused
+unfolding landing_finite
+returns-in-Refused c = rw (c.in-Refused.is, never_done)

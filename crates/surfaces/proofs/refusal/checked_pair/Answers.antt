@@ -1,0 +1,30 @@
+-- Drafted (tools/draft): opens Types.bothFinite; refused by Refusals.never_done.
+-- By the tests and the calls, in order. Assumes nothing.
+use borrow.Author.Rules.{rules}
+use Rattle.surfaces.specs.Types.{both_finite}
+use Rattle.surfaces.proofs.Refusals.{never_done}
+use Rattle.surfaces.proofs.refusal.checked_pair.Goals as goal
+
+pub enum_known-a : goal.enum_known-a
+unfolding both_finite
+enum_known-a c = search rules
+
+pub enum_told-1 : goal.enum_told-1
+unfolding both_finite
+enum_told-1 c = search rules
+
+pub returns-then-is_finite : goal.returns-then-is_finite
+unfolding both_finite
+returns-then-is_finite c =
+    let c1 = c in let c2 = c1 in let c4 = c2 in
+    rw (c4.in-Given.is, ← c2.is_finite.ensures, ← c1.is_finite-in-Given.ensures, c.if-is_finite.true)
+
+pub returns-else-is_finite : goal.returns-else-is_finite
+unfolding both_finite
+returns-else-is_finite c =
+    let c1 = c in let c2 = c1 in let c4 = c2 in
+    rw (c4.in-Given.is, ← c2.is_finite.ensures, ← c1.is_finite-in-Given.ensures, c.if-is_finite.false)
+
+pub returns-in-Refused : goal.returns-in-Refused
+unfolding both_finite
+returns-in-Refused c = rw (c.in-Refused.is, never_done)

@@ -1,0 +1,10 @@
+-- Drafted (tools/draft): opens Biconic.baseCurveSag. By the tests and the calls, in order. Assumes nothing.
+use mathlib.Core.Path.{refl}
+use lib.Ieee.{of_bits}
+use Rattle.numbers.specs.Arithmetic.{decimal}
+use Rattle.surfaces.specs.Biconic.{base_curve_sag}
+use Rattle.surfaces.proofs.sags.base_curve_sag.Goals as goal
+
+pub returns : goal.returns
+unfolding base_curve_sag decimal of_bits
+returns c = refl

@@ -1,0 +1,13 @@
+-- Drafted (tools/draft): opens Parts.baseSagFrom. By the tests and the calls, in order. Assumes nothing.
+use lib.Ieee.{of_bits}
+use Rattle.numbers.specs.Arithmetic.{decimal}
+use Rattle.surfaces.specs.Parts.{base_sag_from}
+use Rattle.surfaces.proofs.sags.base_sag_from.Goals as goal
+
+pub returns-then-abs : goal.returns-then-abs
+unfolding base_sag_from decimal of_bits
+returns-then-abs c = let c1 = c in rw (← c1.abs.ensures, c.if-abs.true)
+
+pub returns-else-abs : goal.returns-else-abs
+unfolding base_sag_from decimal of_bits
+returns-else-abs c = let c1 = c in rw (← c1.abs.ensures, c.if-abs.false)

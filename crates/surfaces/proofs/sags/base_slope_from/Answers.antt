@@ -1,0 +1,17 @@
+-- Drafted (tools/draft): opens Parts.baseSlopeFrom. By the tests and the calls, in order. Assumes nothing.
+use lib.Ieee.{of_bits}
+use Rattle.numbers.specs.Arithmetic.{decimal}
+use Rattle.surfaces.specs.Parts.{base_slope_from}
+use Rattle.surfaces.proofs.sags.base_slope_from.Goals as goal
+
+pub returns-then-abs : goal.returns-then-abs
+unfolding base_slope_from decimal of_bits
+returns-then-abs c = let c1 = c in rw (← c1.abs.ensures, c.if-abs.true)
+
+pub returns-then-s : goal.returns-then-s
+unfolding base_slope_from decimal of_bits
+returns-then-s c = let c1 = c in let c2 = c1 in rw (← c2.abs.ensures, c1.if-abs.false, c.if-s.true)
+
+pub returns : goal.returns
+unfolding base_slope_from decimal of_bits
+returns c = let c1 = c in let c2 = c1 in rw (← c2.abs.ensures, c1.if-abs.false, c.if-s.false)

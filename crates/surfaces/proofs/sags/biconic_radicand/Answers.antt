@@ -1,0 +1,10 @@
+-- Drafted (tools/draft): opens Biconic.biconicRadicand. By the tests and the calls, in order. Assumes nothing.
+use mathlib.Core.Path.{refl}
+use lib.Ieee.{of_bits}
+use Rattle.numbers.specs.Arithmetic.{decimal}
+use Rattle.surfaces.specs.Biconic.{biconic_radicand}
+use Rattle.surfaces.proofs.sags.biconic_radicand.Goals as goal
+
+pub returns : goal.returns
+unfolding biconic_radicand decimal of_bits
+returns c = refl

@@ -1,0 +1,15 @@
+-- Drafted (tools/draft): opens Parts.biconicSlopesFrom. By the tests and the calls, in order. Assumes nothing.
+use lib.Ieee.{of_bits}
+use Rattle.numbers.specs.Arithmetic.{decimal}
+use Rattle.surfaces.specs.Parts.{biconic_slopes_from}
+use Rattle.surfaces.proofs.sags.biconic_slopes_from.Goals as goal
+
+pub returns-then-on_axis : goal.returns-then-on_axis
+unfolding biconic_slopes_from decimal of_bits
+returns-then-on_axis c = let c1 = c in rw (← c1.on_axis.ensures, c.if-on_axis.true)
+
+pub returns : goal.returns
+unfolding biconic_slopes_from decimal of_bits
+returns c =
+    let c1 = c in let c2 = c1 in
+    rw (← c2.on_axis.ensures, c1.if-on_axis.false, ← c.biconic_slopes_at.ensures)

@@ -1,0 +1,16 @@
+-- Drafted (tools/draft): opens Sags.edgeRoot; without max2 in returns-2.
+-- By the tests and the calls, in order. Assumes nothing.
+use lib.Ieee.{of_bits}
+use Rattle.numbers.specs.Arithmetic.{decimal}
+use Rattle.surfaces.specs.Sags.{edge_root}
+use Rattle.surfaces.proofs.sags.edge_root_beside.Goals as goal
+
+pub returns-then-radicand : goal.returns-then-radicand
+unfolding edge_root decimal of_bits
+returns-then-radicand c = rw c.if-radicand.true
+
+pub returns : goal.returns
+unfolding edge_root decimal of_bits
+returns c =
+    let c2 = c in let c3 = c2 in
+    rw (c3.if-radicand.false, ← c2.max.ensures, ← c.root_beside.ensures)

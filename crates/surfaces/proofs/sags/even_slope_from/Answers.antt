@@ -1,0 +1,28 @@
+-- Drafted (tools/draft): opens Parts.evenSlopeFrom; refused by Refusals.never_done.
+-- By the tests and the calls, in order. Assumes nothing.
+use borrow.Author.Rules.{rules}
+use lib.Ieee.{of_bits}
+use Rattle.numbers.specs.Arithmetic.{decimal}
+use Rattle.surfaces.specs.Parts.{even_slope_from}
+use Rattle.surfaces.proofs.Refusals.{never_done}
+use Rattle.surfaces.proofs.sags.even_slope_from.Goals as goal
+
+pub enum_known-d : goal.enum_known-d
+unfolding even_slope_from decimal of_bits
+enum_known-d c = search rules
+
+pub enum_known-e : goal.enum_known-e
+unfolding even_slope_from decimal of_bits
+enum_known-e c = search rules
+
+pub returns-in-Given : goal.returns-in-Given
+unfolding even_slope_from decimal of_bits
+returns-in-Given c =
+    let c2 = c in let c4 = c2 in
+    rw (← c4.base_slope_from.ensures, c2.in-Given.is, ← c.slope_sum.ensures)
+
+pub returns-in-Refused : goal.returns-in-Refused
+unfolding even_slope_from decimal of_bits
+returns-in-Refused c =
+    let c1 = c in let c3 = c1 in
+    rw (← c3.base_slope_from.ensures, c1.in-Refused.is, never_done)

@@ -1,0 +1,11 @@
+-- Drafted (tools/draft): opens Parts.oddSlopeFrom. By the tests and the calls, in order. Assumes nothing.
+use lib.Ieee.{of_bits}
+use Rattle.numbers.specs.Arithmetic.{decimal}
+use Rattle.surfaces.specs.Parts.{odd_slope_from}
+use Rattle.surfaces.proofs.sags.odd_slope_from.Goals as goal
+
+pub returns : goal.returns
+unfolding odd_slope_from decimal of_bits
+returns c =
+    let c1 = c in let c2 = c1 in
+    rw (← c2.odd_base_slope_from.ensures, ← c1.slope_sum.ensures, ← c.slope_sum-2.ensures)

@@ -1,0 +1,13 @@
+use Prim.Native.Nat.{◌-◌}
+use mathlib.Core.Path.{◌≡◌}
+use lib.ListN.{take, drop}
+use Rattle.numbers.specs.Arithmetic.{0f}
+use Rattle.surfaces.specs.Asphere.{power_sum_from}
+use Rattle.surfaces.proofs.sags.power_sum.Given as goal
+
+abbrev pub invariant-loop-i : goal.invariant-loop-i
+invariant-loop-i l =
+    power_sum_from l.sum (drop l.i (take l.n l.values)) l.p l.r2 ≡ power_sum_from 0f (take l.n l.values) l.power l.r2
+
+abbrev pub decreases-loop-i : goal.decreases-loop-i
+decreases-loop-i l = 8 - l.i

@@ -1,0 +1,7 @@
+-- Drafted (tools/draft): opens Snell.reflectAnswer. By the tests and the calls, in order. Assumes nothing.
+use Rattle.surfaces.specs.Snell.{reflect_answer}
+use Rattle.surfaces.proofs.snell.reflect.Goals as goal
+
+pub returns : goal.returns
+unfolding reflect_answer
+returns c = let c1 = c in rw (← c1.raw_reflect.ensures, ← c.checked_direction.ensures)

@@ -1,0 +1,14 @@
+-- Drafted (tools/draft): opens nothing. By the tests and the calls, in order. Assumes nothing.
+use Rattle.surfaces.proofs.surface.family_of.Goals as goal
+
+pub returns-in-Conic : goal.returns-in-Conic
+returns-in-Conic c = let c1 = c in rw c1.in-Conic.is
+
+pub returns-in-Asphere : goal.returns-in-Asphere
+returns-in-Asphere c = let c1 = c in rw c1.in-Asphere.is
+
+pub returns-in-Biconic : goal.returns-in-Biconic
+returns-in-Biconic c = let c1 = c in rw c1.in-Biconic.is
+
+pub returns-in-Toroid : goal.returns-in-Toroid
+returns-in-Toroid c = let c1 = c in rw c1.in-Toroid.is

@@ -1,0 +1,43 @@
+-- Drafted (tools/draft): opens Surface.turnAnswer; refused by Refusals.never_done.
+-- By the tests and the calls, in order. Assumes nothing.
+use borrow.Author.Rules.{rules}
+use lib.Ieee.{of_bits}
+use Rattle.numbers.specs.Arithmetic.{decimal}
+use Rattle.surfaces.specs.Surface.{turn_answer}
+use Rattle.surfaces.proofs.Refusals.{never_done}
+use Rattle.surfaces.proofs.surface.turn.Goals as goal
+
+pub enum_known-n : goal.enum_known-n
+unfolding turn_answer decimal of_bits
+enum_known-n c = search rules
+
+pub enum_known-v : goal.enum_known-v
+unfolding turn_answer decimal of_bits
+enum_known-v c = search rules
+
+pub enum_known-e : goal.enum_known-e
+unfolding turn_answer decimal of_bits
+enum_known-e c = search rules
+
+pub enum_known-e-in-Refused-normal : goal.enum_known-e-in-Refused-normal
+unfolding turn_answer decimal of_bits
+enum_known-e-in-Refused-normal c = search rules
+
+pub returns-in-Given-onward : goal.returns-in-Given-onward
+unfolding turn_answer decimal of_bits
+returns-in-Given-onward c =
+    let c2 = c in let c4 = c2 in let c6 = c4 in
+    let c8 = c6 in
+    rw (← c8.normal.ensures, c6.in-Given.is, ← c4.onward.ensures, c2.in-Given-onward.is, ← c.dot.ensures)
+
+pub returns-in-Refused-onward : goal.returns-in-Refused-onward
+unfolding turn_answer decimal of_bits
+returns-in-Refused-onward c =
+    let c1 = c in let c3 = c1 in let c5 = c3 in let c7 = c5 in
+    rw (← c7.normal.ensures, c5.in-Given.is, ← c3.onward.ensures, c1.in-Refused-onward.is, never_done)
+
+pub returns-in-Refused : goal.returns-in-Refused
+unfolding turn_answer decimal of_bits
+returns-in-Refused c =
+    let c1 = c in let c3 = c1 in
+    rw (← c3.normal.ensures, c1.in-Refused.is, never_done)

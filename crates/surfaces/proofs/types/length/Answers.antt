@@ -1,0 +1,7 @@
+-- Drafted (tools/draft): opens Types.vectorLength. By the tests and the calls, in order. Assumes nothing.
+use Rattle.surfaces.specs.Types.{vector_length}
+use Rattle.surfaces.proofs.types.length.Goals as goal
+
+pub returns : goal.returns
+unfolding vector_length
+returns c = let c1 = c in rw (← c1.dot.ensures, ← c.sqrt.ensures)

@@ -1,0 +1,6 @@
+-- Drafted (tools/draft): opens nothing; forward no-coefficients, no-coefficients2.
+-- By the tests and the calls, in order. Assumes nothing.
+use Rattle.surfaces.proofs.types.no_polynomial.Goals as goal
+
+pub returns : goal.returns
+returns c = let c1 = c in rw (c1.no_coefficients.ensures, c.no_coefficients-2.ensures)

@@ -1,0 +1,7 @@
+-- Drafted (tools/draft): opens Types.rayFinite. By the tests and the calls, in order. Assumes nothing.
+use Rattle.surfaces.specs.Types.{ray_finite}
+use Rattle.surfaces.proofs.types.ray_finite.Goals as goal
+
+pub returns : goal.returns
+unfolding ray_finite
+returns c = let c1 = c in rw (← c1.all_finite.ensures, ← c.all_finite-2.ensures)

@@ -1,5 +1,7 @@
 // A recipe's bytes: the record at a place, and a check of the whole. No function asks anything of its caller, and each
 // says what it answers to every argument.
+#![tactic(auto)]
+
 mod endian;
 mod record;
 mod scan;

@@ -1,0 +1,30 @@
+-- The numbers so far are finite, so that those that are left decide. Assumes nothing.
+use mathlib.Core.Bool.{not}
+use mathlib.Core.Path.{refl, sym, ap, ◌∙◌}
+use native.Mathlib.Omega.{arith}
+use borrow.Author.Rules.{rules}
+use Rattle.recipe.proofs.Numbers.{finite_turn, finite_stop, finite_end}
+use Rattle.recipe.proofs.endian.numbers_finite.Goals as goal
+
+pub loop-left-init : goal.loop-left-init
+loop-left-init c = (search rules, refl)
+
+pub returns-then-not-finite_at : goal.returns-then-not-finite_at
+returns-then-not-finite_at c =
+    let l = c in
+    let s = l.args.s.now in
+    let e = ap not (sym c.finite_at.ensures ∙ c.if-not-finite_at.true) in
+    sym (finite_stop s l.loop-left.place l.loop-left.left (search rules) e) ∙ l.loop-left.invariant.1
+
+pub loop-left-preserved : goal.loop-left-preserved
+loop-left-preserved c =
+    let l = c in
+    let s = l.args.s.now in
+    let e = ap not (sym c.finite_at.ensures ∙ c.if-not-finite_at.false) in
+    (omega arith, sym (finite_turn s l.loop-left.place l.loop-left.left (search rules) e) ∙ l.loop-left.invariant.1)
+
+pub returns : goal.returns
+returns c =
+    let l = c in
+    let s = l.args.s.now in
+    sym (finite_end s l.loop-left.place l.loop-left.left (search rules)) ∙ l.loop-left.invariant.1

@@ -1,0 +1,35 @@
+-- A file that begins with a ray's record has room for all its numbers. Assumes nothing.
+use mathlib.Core.Path.{sym, ◌∙◌}
+use native.Mathlib.Omega.{arith}
+use lib.Ieee.{of_bits}
+use Rattle.numbers.specs.Arithmetic.{decimal}
+use Rattle.recipe.specs.Source.{source_of}
+use Rattle.recipe.proofs.Shapes.{source_room}
+use Rattle.recipe.proofs.source.read_source.Goals as goal
+
+pub vector-requires : goal.vector-requires
+unfolding source_of decimal of_bits
+vector-requires c = omega (arith, (source_room _ (sym c.is_source.ensures ∙ c.if-is_source.true)))
+
+pub vector-requires-then-is_source : goal.vector-requires-then-is_source
+unfolding source_of decimal of_bits
+vector-requires-then-is_source c = omega (arith, (source_room _ (sym c.is_source.ensures ∙ c.if-is_source.true)))
+
+pub slot-requires : goal.slot-requires
+unfolding source_of decimal of_bits
+slot-requires c = omega (arith, (source_room _ (sym c.is_source.ensures ∙ c.if-is_source.true)))
+
+pub returns-then-is_source : goal.returns-then-is_source
+unfolding source_of decimal of_bits
+returns-then-is_source c =
+    rw (
+      ← c.is_source.ensures,
+      c.if-is_source.true,
+      ← c.vector.ensures,
+      ← c.vector-then-is_source.ensures,
+      ← c.slot.ensures,
+    )
+
+pub returns : goal.returns
+unfolding source_of decimal of_bits
+returns c = rw (← c.is_source.ensures, c.if-is_source.false, ← c.no_ray.ensures)

@@ -2,38 +2,18 @@
 -- covers. A row has a rule's answer and the right one, each as numbers: the answer's number and place, the state's
 -- counts, and the bit patterns of the state's numbers and of the whole result buffer; of a reach those of its record.
 -- Assumes nothing.
-use Rattle.std.specs.Prelude.{ℕ, ◌+◌, ◌*◌, ◌^◌, ◌≡◌, refl, true, false, List, [], ◌∷◌, ◌++◌, map, length, replicate, take, Float}
+use Rattle.std.specs.Prelude.{ℕ, ◌+◌, ◌*◌, ◌^◌, true, false, List, [], ◌∷◌, ◌++◌, map, length, replicate, take, Float}
 use Rattle.std.specs.Float.{nan, inf, binary64}
-use Rattle.std.specs.Float.Ieee.{of_bits, to_bits, of_int, neg, round, add, sub, mul, div, lt, le, eq, is_nan}
-use Rattle.numbers.specs.Arithmetic.{decimal, 0f, 1f, 2f, 4f}
-use Rattle.numbers.specs.Basic.{magnitude, negative, larger, clamped, infinite}
-use Rattle.numbers.specs.Root.{root}
-use Rattle.surfaces.specs.Types.{vec, zeros, dot_of, vector_length, over_of, distance, point_at, all_finite, ray_finite}
-use Rattle.surfaces.specs.Types.{every_finite}
-use Rattle.surfaces.specs.Snell.{turned_if, negated_if, mirrored, reflected, bent, refracted}
-use Rattle.surfaces.specs.Conic.{landed_within, plane_crossing, conic_crossing, normal_at}
-use Rattle.surfaces.specs.Newton.{arrived_at, moved_by, pass_at, vertex_plane, passes_from, newton_end, pass_start, next_pass}
-use Rattle.surfaces.specs.Newton.{limited_pass}
-use Rattle.surfaces.specs.Asphere.{power_sum_from, slope_sum_from, base_sag, base_slope, even_sag, even_slope, radial_slopes}
-use Rattle.surfaces.specs.Asphere.{even_slopes, length_of, facing_of, normal_of, even_facing, even_normal, odd_sag}
-use Rattle.surfaces.specs.Asphere.{odd_base_slope, odd_slope, odd_on_axis, odd_slopes_at, odd_normal, odd_slopes}
-use Rattle.surfaces.specs.Surface.{pass_answer, surface_end, limit_of, surface_normal, onward_from, turn_answer}
-use Rattle.surfaces.specs.Edges.{◌over◌, whole, bits, coordinates, Case, ◌⇒◌, agree, ray}
+use Rattle.std.specs.Float.Ieee.{of_bits, neg}
+use Rattle.numbers.specs.Arithmetic.{0f, 1f, 2f, 4f}
+use Rattle.surfaces.specs.Types.{vec, zeros}
+use Rattle.surfaces.specs.Edges.{◌over◌, whole, bits, coordinates, Case, ◌⇒◌, ray}
 use Rattle.surfaces.specs.declared.types.Vec3.{Vec3}
 use Rattle.surfaces.specs.declared.types.Ray.{Ray}
-use Rattle.recipe.specs.Endian.{u16_at, u32_at, u64_at, number_at, numbers_at}
-use Rattle.recipe.specs.Record.{slot_at, length_fits, formed_at, shaped_at, semi_slot, kind_of, odd_count, even_count}
-use Rattle.recipe.specs.Record.{coefficients_at, optic_at, negative_semi, record_at}
-use Rattle.recipe.specs.Scan.{scan, place_of, notes}
-use Rattle.recipe.specs.Source.{is_source, vector_at, source_of}
 use Rattle.trace.specs.declared.leg.Beam.{Beam}
 use Rattle.trace.specs.declared.state.State.{State}
 use Rattle.trace.specs.declared.wanted.Reached.{Reached}
-use Rattle.trace.specs.Leg.{boundary_of, share, leg_finite, leg_of, beam_after, hit_row, refusal_row, row_of}
-use Rattle.trace.specs.Unbroken.{unbroken, total, rows, padded}
-use Rattle.trace.specs.State.{paused_at, state_after, surface_left, step_on, move, advance, outcome_known, place_fits}
-use Rattle.trace.specs.State.{passes_fit, beam_good, fits_of}
-use Rattle.trace.specs.Run.{recipe_of, Reply, refused_answer, ray_admission, admission, start_at, start_of}
+use Rattle.trace.specs.Run.{recipe_of, Reply, start_of}
 use Rattle.trace.specs.Run.{continue_on, continue_of, whole_of}
 use Rattle.trace.specs.Wanted.{reach_of}
 use Rattle.trace.specs.File.{start_file_of}

@@ -1,5 +1,7 @@
 // A beam through a recipe's surfaces, in steps: a call may stop after any step, and what it shows is finished or blank.
 // No function asks anything of its caller, and each says what it answers to every argument.
+#![tactic(auto)]
+
 mod file;
 mod leg;
 mod run;

@@ -1,0 +1,10 @@
+-- Drafted (tools/draft): opens Run.refusedAnswer. By the tests and the calls, in order. Assumes nothing.
+use mathlib.Core.Path.{refl}
+use lib.Ieee.{of_bits}
+use Rattle.numbers.specs.Arithmetic.{decimal}
+use Rattle.trace.specs.Run.{refused_answer}
+use Rattle.trace.proofs.run.before_first.Goals as goal
+
+pub returns : goal.returns
+unfolding refused_answer decimal of_bits
+returns c = refl

@@ -1,0 +1,33 @@
+-- Drafted (tools/draft): opens Run.begunOf. By the tests and the calls, in order. Assumes nothing.
+use borrow.Author.Rules.{rules}
+use borrow.Author.Tests.{eq-eqb, ne_eqb}
+use lib.Ieee.{of_bits}
+use Rattle.numbers.specs.Arithmetic.{decimal}
+use Rattle.trace.specs.Run.{begun_of}
+use Rattle.trace.proofs.run.begin.Goals as goal
+
+pub overflow_add-base : goal.overflow_add-base
+unfolding begun_of decimal of_bits
+overflow_add-base c = search rules
+
+pub returns-then-c-ne-ACCEPTED : goal.returns-then-c-ne-ACCEPTED
+unfolding begun_of decimal of_bits
+returns-then-c-ne-ACCEPTED c = let c2 = c in rw (ne_eqb _ _ c2.if-c-ne-ACCEPTED.true, ← c.refused.ensures)
+
+pub returns-then-n-ne-ACCEPTED : goal.returns-then-n-ne-ACCEPTED
+unfolding begun_of decimal of_bits
+returns-then-n-ne-ACCEPTED c =
+    let c1 = c in let c2 = c1 in let c3 = c2 in
+    rw (eq-eqb _ _ c3.if-c-ne-ACCEPTED.false, ← c2.admission-n.ensures, ne_eqb _ _ c1.if-n-ne-ACCEPTED.true, ← c.refused-then-n-ne-ACCEPTED.ensures)
+
+pub returns : goal.returns
+unfolding begun_of decimal of_bits
+returns c =
+    let c1 = c in let c2 = c1 in let c3 = c2 in let c4 = c3 in
+    rw (
+      eq-eqb _ _ c4.if-c-ne-ACCEPTED.false,
+      ← c3.admission-n.ensures,
+      eq-eqb _ _ c2.if-n-ne-ACCEPTED.false,
+      ← c1.outcome_at.ensures,
+      ← c.before_first.ensures,
+    )

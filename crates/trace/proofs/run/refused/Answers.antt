@@ -1,0 +1,9 @@
+-- Drafted (tools/draft): opens Run.refusedAnswer. By the tests and the calls, in order. Assumes nothing.
+use lib.Ieee.{of_bits}
+use Rattle.numbers.specs.Arithmetic.{decimal}
+use Rattle.trace.specs.Run.{refused_answer}
+use Rattle.trace.proofs.run.refused.Goals as goal
+
+pub returns : goal.returns
+unfolding refused_answer decimal of_bits
+returns c = let c1 = c in rw (← c1.no_ray.ensures, ← c.before_first.ensures)

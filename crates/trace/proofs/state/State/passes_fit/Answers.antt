@@ -1,0 +1,12 @@
+-- Drafted (tools/draft): opens State.passesFit. By the tests and the calls, in order. Assumes nothing.
+use borrow.Author.Tests.{eq-eqb, ne_eqb}
+use Rattle.trace.specs.State.{passes_fit}
+use Rattle.trace.proofs.state.State.passes_fit.Goals as goal
+
+pub returns-then-self-eq-RUNNING : goal.returns-then-self-eq-RUNNING
+unfolding passes_fit
+returns-then-self-eq-RUNNING c = let c2 = c in rw (eq-eqb _ _ c2.if-self-eq-RUNNING.true)
+
+pub returns-else-self-eq-RUNNING : goal.returns-else-self-eq-RUNNING
+unfolding passes_fit
+returns-else-self-eq-RUNNING c = let c1 = c in rw (ne_eqb _ _ c1.if-self-eq-RUNNING.false)

@@ -1,0 +1,12 @@
+-- Drafted (tools/draft): opens State.placeFits. By the tests and the calls, in order. Assumes nothing.
+use borrow.Author.Tests.{eq-eqb, ne_eqb}
+use Rattle.trace.specs.State.{place_fits}
+use Rattle.trace.proofs.state.State.place_fits.Goals as goal
+
+pub returns-then-self-eq-DONE : goal.returns-then-self-eq-DONE
+unfolding place_fits
+returns-then-self-eq-DONE c = let c3 = c in rw (eq-eqb _ _ c3.if-self-eq-DONE.true)
+
+pub returns-else-self-eq-DONE : goal.returns-else-self-eq-DONE
+unfolding place_fits
+returns-else-self-eq-DONE c = let c4 = c in rw (ne_eqb _ _ c4.if-self-eq-DONE.false)

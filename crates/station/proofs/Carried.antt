@@ -31,8 +31,8 @@ use Rattle.trace.proofs.Demand3.{sound, call, admitted_start, started}
 use Rattle.station.specs.Lent.{passes_in, outcome_in, state_in, counts_of, numbers_of, Left, left, told}
 use Rattle.station.specs.Lent.{told_if_accepted, continued}
 use Rattle.station.specs.Carried.{scans, Beyond, unfit, Carried}
+
 -- named so that the worked cases are checked first
-use Rattle.station.proofs.Cases.{each_case}
 
 at_most_9 : (n : ℕ) → stops n ≡ true → n ≤ 9
 at_most_9 n h = leb-true n 9 (each (λ (k : ℕ). leb k 9) outcomes n refl (stops_listed n h))

@@ -1,30 +1,16 @@
 -- Worked cases of the state in its arrays and of what calls leave there: one list, which one theorem covers. A row has
 -- a rule's answer and what it should be, as numbers and bit patterns. Assumes nothing.
-use Rattle.std.specs.Prelude.{ℕ, ◌≡◌, refl, List, [], ◌∷◌, ◌++◌, true, replicate, Float}
-use Rattle.std.specs.Float.Ieee.{of_bits, to_bits, of_int, neg, round, add, sub, mul, div, lt, le, eq, is_nan}
-use Rattle.numbers.specs.Arithmetic.{decimal, 0f, 1f, 2f}
-use Rattle.numbers.specs.Basic.{magnitude, negative, larger, clamped, infinite}
-use Rattle.numbers.specs.Root.{root}
-use Rattle.surfaces.specs.Types.{ray_of, dot_of, vector_length, over_of, distance, point_at, all_finite, ray_finite}
-use Rattle.surfaces.specs.Types.{every_finite}
-use Rattle.surfaces.specs.Snell.{turned_if, negated_if, bent, refracted}
-use Rattle.surfaces.specs.Conic.{landed_within, plane_crossing, conic_crossing, conic_normal, gradient_normal, normal_at}
-use Rattle.surfaces.specs.Surface.{pass_answer, surface_end, limit_of, surface_normal, onward_from, turn_answer}
-use Rattle.surfaces.specs.Edges.{◌over◌, whole, bits, Case, ◌⇒◌, agree}
+use Rattle.std.specs.Prelude.{ℕ, List, [], ◌∷◌, ◌++◌, replicate, Float}
+use Rattle.std.specs.Float.Ieee.{neg}
+use Rattle.numbers.specs.Arithmetic.{0f, 1f, 2f}
+use Rattle.surfaces.specs.Types.{ray_of}
+use Rattle.surfaces.specs.Edges.{whole, bits, Case, ◌⇒◌}
 use Rattle.surfaces.specs.declared.types.Ray.{Ray}
-use Rattle.recipe.specs.Endian.{u16_at, u32_at, u64_at, number_at, numbers_at}
-use Rattle.recipe.specs.Record.{slot_at, length_fits, formed_at, shaped_at, semi_slot, kind_of, odd_count, even_count}
-use Rattle.recipe.specs.Record.{coefficients_at, optic_at, record_at}
-use Rattle.recipe.specs.Scan.{scan, notes}
 use Rattle.trace.specs.declared.state.State.{State}
-use Rattle.trace.specs.Leg.{boundary_of, share, leg_finite, leg_of, beam_after, hit_row, row_of}
-use Rattle.trace.specs.State.{state_after, surface_left, step_on, move, advance, outcome_known, place_fits, passes_fit}
-use Rattle.trace.specs.State.{beam_good, fits_of}
-use Rattle.trace.specs.Unbroken.{unbroken}
-use Rattle.trace.specs.Run.{refused_answer, ray_admission, admission, start_at, start_of, continue_of}
+use Rattle.trace.specs.Run.{start_of}
 use Rattle.trace.specs.Wanted.{reach_of}
-use Rattle.trace.specs.Example.{bytes, patterns, plane_record}
-use Rattle.station.specs.Lent.{passes_in, outcome_in, state_in, counts_of, numbers_of, Left, told, continued}
+use Rattle.trace.specs.Example.{plane_record}
+use Rattle.station.specs.Lent.{state_in, counts_of, numbers_of, Left, told, continued}
 use Rattle.station.specs.Lent.{LeftRow, told_row}
 
 -- what a call leaves, as numbers: the verdict, the counts, the state's numbers and the result buffer

@@ -1,6 +1,8 @@
 // The trace under names that C can link. Its state is kept in two lent arrays, so that a controller can hold it across
 // scans and power cycles: the counts are surface number, place, passes, all steps and outcome; the numbers are t,
 // origin, direction, index and path. Whatever stands in them is answered.
+#![tactic(auto)]
+
 ghost use Rattle.std.specs.Prelude.{◌≡◌, List, Float};
 ghost use Rattle.surfaces.specs.Types.{ray_of};
 ghost use Rattle.trace.specs.Run.{start_of, whole_of};

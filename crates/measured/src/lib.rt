@@ -1,4 +1,6 @@
 // The functions that bench/ measures, under names that C can link. No part of the product.
+#![tactic(auto)]
+
 mod surfaced;
 
 ghost use Rattle.std.specs.Prelude.{◌≡◌};

@@ -1,0 +1,42 @@
+-- Drafted (tools/draft): opens Surfaced.conicThen; refused by surfaces.Refusals.never_done.
+-- By the tests and the calls, in order. Assumes nothing.
+use borrow.Author.Rules.{rules}
+use lib.Ieee.{of_bits}
+use Rattle.numbers.specs.Arithmetic.{decimal}
+use Rattle.surfaces.proofs.Refusals.{never_done}
+use Rattle.measured.specs.Surfaced.{conic_then}
+use Rattle.measured.proofs.surfaced.measured_conic_then.Goals as goal
+
+pub enum_known-h : goal.enum_known-h
+unfolding conic_then decimal of_bits
+enum_known-h c = search rules
+
+pub enum_told-1 : goal.enum_told-1
+unfolding conic_then decimal of_bits
+enum_told-1 c = search rules
+
+pub returns-in-Given : goal.returns-in-Given
+unfolding conic_then decimal of_bits
+returns-in-Given c =
+    let c1 = c in let c5 = c1 in let c7 = c5 in
+    let c8 = c7 in let c9 = c8 in
+    rw (
+      ← c9.ray_of-ray.ensures,
+      ← c8.conic_of.ensures,
+      ← c7.intersect_conic.ensures,
+      c5.in-Given.is,
+      ← c1.snell_refract.ensures,
+      ← c.total.ensures,
+    )
+
+pub returns-in-Refused : goal.returns-in-Refused
+unfolding conic_then decimal of_bits
+returns-in-Refused c =
+    let c2 = c in let c3 = c2 in let c4 = c3 in
+    rw (
+      ← c4.ray_of-ray.ensures,
+      ← c3.conic_of.ensures,
+      ← c2.intersect_conic.ensures,
+      c.in-Refused.is,
+      never_done,
+    )

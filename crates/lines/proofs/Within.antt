@@ -1,12 +1,5 @@
 -- A count that was read keeps to its bound. Assumes nothing.
-use Prim.Native.Nat.{ℕ, ◌+◌, ◌*◌, ◌≤◌}
-use mathlib.Core.Bool.{Bool, false}
-use mathlib.Core.List.{List, [], ◌∷◌}
-use mathlib.Core.Path.{◌≡◌}
-use native.Mathlib.Omega.{arith}
-use lib.Dec.{eqb, leb, ltb}
-use lib.ListN.{length}
-use borrow.Author.Tests.{ltb-false}
+use Rattle.std.proofs.Common.{◌≡◌, ℕ, ◌+◌, ◌*◌, ◌≤◌, Bool, false, List, [], ◌∷◌, length, eqb, leb, ltb, arith, ltb-false}
 use Rattle.numbers.specs.Arithmetic.{if◌then◌else◌}
 use Rattle.numbers.proofs.Choice.{by_test}
 use Rattle.lines.specs.Digits.{digit_value, spelled, read_count}

@@ -23,6 +23,7 @@ fn wide(b: u8) -> u64
 }
 
 // The value of a hexadecimal digit of either case, and 16 for any other byte.
+#[tactic(auto, unfolding(crate::specs::Digits::digit_value))]
 pub fn digit_value(b: u8) -> u64
     ensures { result ≡ digit_value b }
 {
@@ -35,6 +36,7 @@ pub fn digit_value(b: u8) -> u64
 }
 
 // The number that digits spell in a base, if it is at most `most`.
+#[tactic(auto, unfolding(crate::specs::Digits::spelled))]
 fn spelled(word: &[u8], base: u64, most: u64) -> ReadCount
     requires { 0 < base }
     ensures { result ≡ spelled base most 0 word.now }
@@ -57,6 +59,7 @@ fn spelled(word: &[u8], base: u64, most: u64) -> ReadCount
 }
 
 // A decimal number, at most `most`.
+#[tactic(auto, unfolding(crate::specs::Digits::read_count))]
 pub fn read_count(word: &[u8], most: u64) -> ReadCount
     ensures { result ≡ read_count most word.now }
 {
@@ -67,6 +70,7 @@ pub fn read_count(word: &[u8], most: u64) -> ReadCount
 }
 
 // The binary64 number of a pattern of 16 hexadecimal digits.
+#[tactic(auto, unfolding(crate::specs::Digits::float_of, crate::specs::Digits::read_float))]
 pub fn read_float(word: &[u8]) -> ReadFloat
     ensures { result ≡ read_float word.now }
 {

@@ -1,8 +1,8 @@
-// The lines of standard input, one after the other, in a buffer that the caller lends. A read that fails counts as the
+// The lines of an input, one after the other, in a buffer that the caller lends. A read that fails counts as the
 // input's end.
-ghost use Rattle.std.specs.Prelude.{◌+◌, ◌≤◌, ◌≡◌, length};
+ghost use Rattle.std.specs.Prelude.{◌+◌, ◌<◌, ◌≤◌, ◌≡◌, length, IfSome};
 
-use libc::STDIN_FILENO;
+use std::io::Read;
 
 // How many characters the test programs take in a line.
 pub const LONGEST_LINE: usize = 131200;
@@ -32,20 +32,20 @@ pub struct Next {
 
 // The next line. The last one may lack its line feed. What it is depends on what is read, of which nothing can be
 // promised.
-pub fn next_line(buffer: &mut [u8], unread: Unread) -> Next
+pub fn next_line<R: Read>(input: &mut R, buffer: &mut [u8], unread: Unread) -> Next
     ensures { length buffer.new ≡ length buffer.old }
 {
     let to = least(unread.to, buffer.len());
     let from = least(unread.from, to);
-    let end = bytes::scan::find(buffer, from, to, b'\n');
-    if end < to {
+    if let Some(n) = line_feed(&buffer[from..to]) {
+        let end = from + n;
         return Next {
             line: ReadLine::Given { start: from, end },
             unread: Unread { from: end + 1, to },
         };
     }
     move_to_front(buffer, from, to);
-    read_line(buffer, to - from)
+    read_line(input, buffer, to - from)
 }
 
 fn least(a: usize, b: usize) -> usize
@@ -53,6 +53,13 @@ fn least(a: usize, b: usize) -> usize
     ensures upper_bound_2 { result ≤ b }
 {
     if a < b { a } else { b }
+}
+
+// Where the first line feed stands.
+fn line_feed(bytes: &[u8]) -> Option<usize>
+    ensures { IfSome result (λ n. n < length bytes.now) }
+{
+    bytes.iter().position(|b| *b == b'\n')
 }
 
 fn move_to_front(buffer: &mut [u8], from: usize, to: usize)
@@ -65,18 +72,18 @@ fn move_to_front(buffer: &mut [u8], from: usize, to: usize)
 }
 
 // The line whose first `held` bytes begin the buffer.
-fn read_line(buffer: &mut [u8], held: usize) -> Next
+fn read_line<R: Read>(input: &mut R, buffer: &mut [u8], held: usize) -> Next
     requires { held ≤ length buffer.old }
 {
     let mut to = held;
     while to < buffer.len() {
-        let more = read_behind(buffer, to);
+        let more = read_behind(input, buffer, to);
         if more == 0 {
             return last_line(to);
         }
         let next = to + more;
-        let end = bytes::scan::find(buffer, to, next, b'\n');
-        if end < next {
+        if let Some(n) = line_feed(&buffer[to..next]) {
+            let end = to + n;
             return Next {
                 line: ReadLine::Given { start: 0, end },
                 unread: Unread {
@@ -89,7 +96,7 @@ fn read_line(buffer: &mut [u8], held: usize) -> Next
     }
     Next {
         line: ReadLine::TooLong,
-        unread: pass_over(buffer),
+        unread: pass_over(input, buffer),
     }
 }
 
@@ -108,34 +115,30 @@ fn last_line(to: usize) -> Next {
 }
 
 // Passes over the rest of a line, and answers what was read behind it. Nothing says that the line ends, and a proved
-// loop has to: the turns count down from a number that no run uses up.
-fn pass_over(buffer: &mut [u8]) -> Unread {
-    let mut turns = u64::MAX;
-    while turns > 0 {
-        let to = read_some(buffer);
-        let end = bytes::scan::find(buffer, 0, to, b'\n');
-        if end < to {
+// loop has to: no run uses up so many turns.
+fn pass_over<R: Read>(input: &mut R, buffer: &mut [u8]) -> Unread {
+    for _ in 0..u64::MAX {
+        let to = read_some(input, buffer);
+        if let Some(end) = line_feed(&buffer[..to]) {
             return Unread { from: end + 1, to };
         }
         if to == 0 {
-            return Unread { from: 0, to: 0 };
+            break;
         }
-        turns -= 1;
     }
     Unread { from: 0, to: 0 }
 }
 
-fn read_behind(buffer: &mut [u8], to: usize) -> usize
+fn read_behind<R: Read>(input: &mut R, buffer: &mut [u8], to: usize) -> usize
     requires { to ≤ length buffer.old }
     ensures { to + result ≤ length buffer.new }
 {
-    read_some(&mut buffer[to..])
+    read_some(input, &mut buffer[to..])
 }
 
 // How many bytes it put at the start of the buffer.
-fn read_some(buffer: &mut [u8]) -> usize
+fn read_some<R: Read>(input: &mut R, buffer: &mut [u8]) -> usize
     ensures { result ≤ length buffer.new }
 {
-    let got = libc::read(STDIN_FILENO, buffer);
-    io::count(got, buffer)
+    input.read(buffer).unwrap_or(0)
 }

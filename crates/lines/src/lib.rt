@@ -1,5 +1,7 @@
-// Lines of words: read from standard input, taken apart, put together, and written to standard output. No function asks
-// anything of its caller. A buffer is lent, and its length is the limit of what it is lent for.
+// Lines of words: read from an input, taken apart, put together, and written to an output. No function asks anything of
+// its caller. A buffer is lent, and its length is the limit of what it is lent for.
+#![tactic(auto)]
+
 mod digits;
 mod input;
 mod output;

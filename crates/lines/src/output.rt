@@ -1,11 +1,12 @@
 // A line of words, put together in a buffer that the caller lends. A space follows each word, and the line feed takes
 // the last one's place.
-ghost use Rattle.std.specs.Prelude.{◌≡◌, ◌<◌};
+ghost use Rattle.std.specs.Prelude.{◌≡◌, ◌<◌, IsTrue, take};
 ghost use Rattle.std.specs.Float.{binary64};
 ghost use Rattle.std.specs.Float.Ieee.{to_bits};
+ghost use Rattle.std.specs.Io.KnownBytes.{Appends};
 ghost use Rattle.lines.specs.Output.{glyph, hex_text, decimal_text, put, put_floats, ended};
 
-use libc::STDOUT_FILENO;
+use std::io::Write;
 
 // How many digits a count has at most, and a pattern always.
 const COUNT_DIGITS: usize = 20;
@@ -19,6 +20,7 @@ pub const FLOAT_BYTES: usize = FLOAT_DIGITS + 1;
 
 // Puts a word and a space from a place on, and answers the next place. Where there is no room it puts nothing, and the
 // place stays.
+#[tactic(auto, unfolding(crate::specs::Output::put))]
 pub fn put_word(out: &mut [u8], at: usize, word: &[u8]) -> usize
     ensures { (result, out.new) ≡ put out.old at word.now }
 {
@@ -54,6 +56,7 @@ pub fn put_float(out: &mut [u8], at: usize, x: f64) -> usize
 }
 
 // Puts the patterns of numbers one after the other, each as `put_word` does.
+#[tactic(auto, unfolding(crate::specs::Output::put_floats))]
 pub fn put_floats(out: &mut [u8], at: usize, values: &[f64]) -> usize
     ensures { (result, out.new) ≡ put_floats (at, out.old) values.now }
 {
@@ -75,6 +78,7 @@ pub fn bits_of(x: f64) -> u64
     }
 }
 
+#[tactic(auto, unfolding(crate::specs::Output::hex_text))]
 fn hex_text(bits: u64) -> [u8; FLOAT_DIGITS]
     ensures { result ≡ hex_text 16 bits }
 {
@@ -89,6 +93,7 @@ fn hex_text(bits: u64) -> [u8; FLOAT_DIGITS]
     text
 }
 
+#[tactic(auto, unfolding(crate::specs::Output::glyph))]
 fn glyph(value: u64) -> u8
     requires { value < 16 }
     ensures { result ≡ glyph value }
@@ -101,6 +106,7 @@ fn glyph(value: u64) -> u8
 }
 
 // The line feed takes the place of the space behind the last word.
+#[tactic(auto, unfolding(crate::specs::Output::ended))]
 pub fn end_line(out: &mut [u8], end: usize)
     ensures { out.new ≡ ended out.old end }
 {
@@ -114,12 +120,13 @@ pub fn end_line(out: &mut [u8], end: usize)
 }
 
 // Writes the words that were put, up to the next place, as a line, and tells whether that succeeded.
-pub fn write_line(out: &mut [u8], end: usize) -> bool
-    ensures { out.new ≡ ended out.old end }
+pub fn write_line<W: Write>(output: &mut W, out: &mut [u8], end: usize) -> bool
+    ensures line { out.new ≡ ended out.old end }
+    ensures written { IsTrue result → Appends (W.contents output.old) (W.contents output.new) (take end out.new) }
 {
     end_line(out, end);
     if out.len() < end {
         return false;
     }
-    io::write_all(STDOUT_FILENO, &out[..end])
+    output.write_all(&out[..end]).is_ok()
 }

@@ -10,6 +10,7 @@ pub struct Word {
 }
 
 // The first word from a place on, an empty one where there is none.
+#[tactic(auto, unfolding(crate::specs::Words::word_from))]
 pub fn next_word(line: &[u8], at: usize) -> Word
     ensures { result ≡ word_from line.now at }
 {
@@ -19,6 +20,7 @@ pub fn next_word(line: &[u8], at: usize) -> Word
 }
 
 // Where the run of spaces, or of other bytes, ends that begins at a place.
+#[tactic(auto, unfolding(crate::specs::Words::run))]
 fn run_end(line: &[u8], at: usize, spaces: bool) -> usize
     ensures { result ≡ at + run spaces (drop at line.now) }
 {

@@ -1,5 +1,6 @@
 // What is printed of an answer.
 use lines::{COUNT_BYTES, FLOAT_BYTES, put_count, put_floats, put_word, write_line};
+use std::io::Write;
 use surfaces::{
     ACCEPTED, Acceptance, Coefficients, ConicSurface, Crossing, Direction, EvenAsphere,
     MOST_COEFFICIENTS, Meet, NewBiconic, NewConic, NewEven, NewOdd, NewToroid, Number, OddAsphere,
@@ -85,10 +86,10 @@ impl Printed {
     }
 
     // Tells whether that succeeded.
-    pub(crate) fn print(self) -> bool {
+    pub(crate) fn print<W: Write>(self, output: &mut W) -> bool {
         let mut line = [0u8; LINE_BYTES];
         let end = self.put(&mut line);
-        write_line(&mut line, end)
+        write_line(output, &mut line, end)
     }
 
     fn put(self, line: &mut [u8]) -> usize {

@@ -2,6 +2,8 @@
 // the function of that name in `numbers` or `surfaces` is asked about. Its answer is a line: the number of the table
 // (SCOPE T1), and the bit patterns of the values that the function hands out. A line that cannot be read as its
 // operation wants is answered `?`.
+#![tactic(auto)]
+
 mod answer;
 mod asphere;
 mod biconic;
@@ -15,11 +17,11 @@ ghost use Rattle.std.specs.Prelude.{◌≤◌};
 use answer::{Printed, unreadable};
 use asphere::{answer_even, answer_odd};
 use biconic::{answer_biconic, answer_toroid};
-use check::same;
 use conic::answer_conic;
 use lines::{LONGEST_LINE, ReadLine, Unread, next_line, next_word, part};
 use operands::{Operands, Values, read_operands};
 use plain::answer_plain;
+use std::io::{Read, Write};
 
 // The longest line that is read, and its line feed.
 const BUFFER: usize = LONGEST_LINE + 1;
@@ -29,22 +31,16 @@ fn answer_numbers(name: &[u8], v: &Values, count: usize) -> Printed
     requires { count ≤ 64 }
 {
     let end = name.len();
-    let mark = bytes::scan::find(name, 0, end, b'_');
+    let mark = name.iter().position(|b| *b == b'_').unwrap_or(end);
     let kind = part(name, 0, mark);
     let method = part(name, mark + 1, end);
-    if same(kind, b"conic") {
-        return answer_conic(method, v, count);
+    match kind {
+        b"conic" => answer_conic(method, v, count),
+        b"even" => answer_even(method, v, count),
+        b"biconic" => answer_biconic(method, v, count),
+        b"toroid" => answer_toroid(method, v, count),
+        _ => answer_plain(name, v, count),
     }
-    if same(kind, b"even") {
-        return answer_even(method, v, count);
-    }
-    if same(kind, b"biconic") {
-        return answer_biconic(method, v, count);
-    }
-    if same(kind, b"toroid") {
-        return answer_toroid(method, v, count);
-    }
-    answer_plain(name, v, count)
 }
 
 fn answer_line(line: &[u8]) -> Printed {
@@ -59,30 +55,28 @@ fn answer_line(line: &[u8]) -> Printed {
 }
 
 // Tells whether to go on.
-fn answer_next(line: ReadLine, buffer: &[u8]) -> bool {
+fn answer_next<W: Write>(output: &mut W, line: ReadLine, buffer: &[u8]) -> bool {
     match line {
-        ReadLine::Given { start, end } => answer_line(part(buffer, start, end)).print(),
-        ReadLine::TooLong => unreadable().print(),
+        ReadLine::Given { start, end } => answer_line(part(buffer, start, end)).print(output),
+        ReadLine::TooLong => unreadable().print(output),
         ReadLine::End => false,
     }
 }
 
-// Nothing says that the input ends, and a proved loop has to: the turns count down from a number that no run uses up.
-fn answer_all(buffer: &mut [u8]) {
+// Nothing says that the input ends, and a proved loop has to: no run uses up so many turns.
+fn answer_all<R: Read, W: Write>(input: &mut R, output: &mut W, buffer: &mut [u8]) {
     let mut unread = Unread { from: 0, to: 0 };
-    let mut turns = u64::MAX;
-    while turns > 0 {
-        let next = next_line(buffer, unread);
+    for _ in 0..u64::MAX {
+        let next = next_line(input, buffer, unread);
         let line = next.line;
-        if !answer_next(line, buffer) {
+        if !answer_next(output, line, buffer) {
             return;
         }
         unread = next.unread;
-        turns -= 1;
     }
 }
 
-fn main() {
+fn main(rt: HostRuntime) {
     let mut buffer = [0u8; BUFFER];
-    answer_all(&mut buffer);
+    answer_all(&mut rt.stdin(), &mut rt.stdout(), &mut buffer);
 }

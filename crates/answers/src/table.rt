@@ -1,5 +1,4 @@
 // Tables of operations. A table is a line of words: a name, how many numbers its operation takes, and so on.
-use check::same;
 use lines::{ReadCount, next_word, part, read_count};
 
 // A table has at most so many rows, and none of this number.
@@ -26,7 +25,7 @@ pub(crate) fn look_up(name: &[u8], table: &[u8]) -> Entry {
     while row < MOST_ROWS {
         let word = next_word(table, at);
         let count = next_word(table, word.end);
-        if same(part(table, word.start, word.end), name) {
+        if part(table, word.start, word.end) == name {
             return entry_of(row, read_count(part(table, count.start, count.end), 64));
         }
         at = count.end;

@@ -4,13 +4,13 @@ ghost use Rattle.lines.specs.Digits.{digit_value, spelled, read_count, read_floa
 
 use numbers::from_bits;
 
-#[derive(Drop)]
+#[derive(Clone, Copy)]
 pub enum ReadCount {
     Given(u64),
     Unreadable,
 }
 
-#[derive(Drop)]
+#[derive(Clone, Copy)]
 pub enum ReadFloat {
     Given(f64),
     Unreadable,

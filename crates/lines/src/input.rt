@@ -8,13 +8,13 @@ use std::io::Read;
 pub const LONGEST_LINE: usize = 131200;
 
 // Where the bytes that were read and not yet handed out stand in the buffer.
-#[derive(Drop)]
+#[derive(Clone, Copy)]
 pub struct Unread {
     pub from: usize,
     pub to: usize,
 }
 
-#[derive(Drop)]
+#[derive(Clone, Copy)]
 pub enum ReadLine {
     // From one place of the buffer up to another, without the line feed.
     Given { start: usize, end: usize },
@@ -24,7 +24,7 @@ pub enum ReadLine {
     End,
 }
 
-#[derive(Drop)]
+#[derive(Clone, Copy)]
 pub struct Next {
     pub line: ReadLine,
     pub unread: Unread,

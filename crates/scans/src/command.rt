@@ -1,6 +1,5 @@
 // What a line asks for.
 use crate::operands::{is_end, next_count, next_number, next_ray};
-use check::same;
 use lines::{digit_value, next_word, part};
 use surfaces::Ray;
 use trace::{Beam, State};
@@ -38,25 +37,15 @@ pub enum Command {
 pub(crate) fn read_command(line: &[u8], given: &mut Bytes) -> Command {
     let word = next_word(line, 0);
     let name = part(line, word.start, word.end);
-    if same(name, b"recipe") {
-        return read_recipe(line, word.end, given);
+    match name {
+        b"recipe" => read_recipe(line, word.end, given),
+        b"room" => read_room(line, word.end),
+        b"start" => read_start(line, word.end),
+        b"state" => read_state(line, word.end),
+        b"continue" => read_continue(line, word.end),
+        b"reach" => read_reach(line, word.end),
+        _ => Command::Unreadable,
     }
-    if same(name, b"room") {
-        return read_room(line, word.end);
-    }
-    if same(name, b"start") {
-        return read_start(line, word.end);
-    }
-    if same(name, b"state") {
-        return read_state(line, word.end);
-    }
-    if same(name, b"continue") {
-        return read_continue(line, word.end);
-    }
-    if same(name, b"reach") {
-        return read_reach(line, word.end);
-    }
-    Command::Unreadable
 }
 
 // An empty recipe has no word.

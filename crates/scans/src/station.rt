@@ -2,6 +2,7 @@
 use crate::command::{Bytes, Command};
 use crate::reply::{print_reach, print_reply, print_unreadable};
 use lines::part;
+use std::io::Write;
 use surfaces::{Ray, no_ray};
 use trace::{Beam, MOST_ROOM, RUNNING, State, reach, start};
 
@@ -44,7 +45,8 @@ pub(crate) fn new_station() -> Station {
 }
 
 // The bytes of a new recipe begin `given`.
-pub(crate) fn obey(
+pub(crate) fn obey<W: Write>(
+    output: &mut W,
     c: Command,
     s: Station,
     given: &Bytes,
@@ -56,7 +58,7 @@ pub(crate) fn obey(
     let state = s.state;
     match c {
         Command::Recipe(n) => {
-            bytes::copy(given, recipe);
+            *recipe = *given;
             after(n, room, state, true)
         }
         Command::Room(n) => {
@@ -64,6 +66,7 @@ pub(crate) fn obey(
             after(length, n, state, true)
         }
         Command::Start { ray, index } => begin(
+            output,
             s,
             part(recipe, 0, length),
             ray,
@@ -71,7 +74,7 @@ pub(crate) fn obey(
             first(results, room),
         ),
         Command::State(next) => after(length, room, next, true),
-        Command::Continue(n) => go_on(s, part(recipe, 0, length), n, first(results, room)),
+        Command::Continue(n) => go_on(output, s, part(recipe, 0, length), n, first(results, room)),
         Command::Reach {
             surface,
             ray,
@@ -80,20 +83,38 @@ pub(crate) fn obey(
             length,
             room,
             state,
-            tell(part(recipe, 0, length), surface, ray, index),
+            tell(output, part(recipe, 0, length), surface, ray, index),
         ),
-        Command::Unreadable => after(length, room, state, print_unreadable()),
+        Command::Unreadable => after(length, room, state, print_unreadable(output)),
         Command::End => after(length, room, state, false),
     }
 }
 
-fn begin(s: Station, recipe: &[u8], ray: Ray, index: f64, results: &mut [f64]) -> Turn {
+fn begin<W: Write>(
+    output: &mut W,
+    s: Station,
+    recipe: &[u8],
+    ray: Ray,
+    index: f64,
+    results: &mut [f64],
+) -> Turn {
     let a = start(recipe, ray, index, results);
     let state = a.state;
-    after(s.length, s.room, state, print_reply(b"start", a, results))
+    after(
+        s.length,
+        s.room,
+        state,
+        print_reply(output, b"start", a, results),
+    )
 }
 
-fn go_on(s: Station, recipe: &[u8], allowed: u16, results: &mut [f64]) -> Turn {
+fn go_on<W: Write>(
+    output: &mut W,
+    s: Station,
+    recipe: &[u8],
+    allowed: u16,
+    results: &mut [f64],
+) -> Turn {
     let last = s.state;
     let a = last.resume(recipe, results, allowed);
     let state = a.state;
@@ -101,13 +122,13 @@ fn go_on(s: Station, recipe: &[u8], allowed: u16, results: &mut [f64]) -> Turn {
         s.length,
         s.room,
         state,
-        print_reply(b"continue", a, results),
+        print_reply(output, b"continue", a, results),
     )
 }
 
 // What stands of a trace takes no part.
-fn tell(recipe: &[u8], surface: usize, ray: Ray, index: f64) -> bool {
-    print_reach(surface, reach(recipe, ray, index, surface))
+fn tell<W: Write>(output: &mut W, recipe: &[u8], surface: usize, ray: Ray, index: f64) -> bool {
+    print_reach(output, surface, reach(recipe, ray, index, surface))
 }
 
 fn after(length: usize, room: usize, state: State, going: bool) -> Turn {

@@ -2,12 +2,14 @@
 // record that was written is told by a line: number, status, steps and slots 1 to 11. The last line has `end`, the
 // outcome, all steps and the path. A file that is refused is told by `refused`, the number and the place. Where reading
 // or writing fails, a word on standard error says which: a program has no exit status of its own.
+#![tactic(auto)]
+
 ghost use Rattle.std.specs.Prelude.{◌≤◌, length};
 
 mod listing;
 
-use libc::{STDERR_FILENO, STDIN_FILENO, STDOUT_FILENO};
 use listing::{MOST_BYTES, list};
+use std::io::{Read, Write};
 use trace::{MOST_RECIPE_BYTES, SOURCE_BYTES};
 
 // The ray's bytes, the longest recipe's and one: by a theorem these alone decide what is printed of a longer file.
@@ -21,35 +23,31 @@ struct Input {
 }
 
 // Reads until the input ends, the buffer is full or a read fails.
-fn read_input(file: &mut [u8]) -> Input
+fn read_input<R: Read>(input: &mut R, file: &mut [u8]) -> Input
     ensures { result.held ≤ length file.new }
 {
     let mut held = 0;
     while held < file.len() {
-        let got = libc::read(STDIN_FILENO, &mut file[held..]);
-        if got < 0 {
-            return Input { held, good: false };
+        match input.read(&mut file[held..]) {
+            Ok(0) => break,
+            Ok(more) => held += more,
+            Err(_) => return Input { held, good: false },
         }
-        let more = io::count(got, &file[held..]);
-        if more == 0 {
-            return Input { held, good: true };
-        }
-        held += more;
     }
     Input { held, good: true }
 }
 
-fn main() {
+fn main(rt: HostRuntime) {
     let mut file = [0u8; FILE];
     let mut out = [0u8; MOST_BYTES];
-    let input = read_input(&mut file);
+    let input = read_input(&mut rt.stdin(), &mut file);
     if !input.good {
-        io::write_all(STDERR_FILENO, b"unread\n");
+        let _ = rt.stderr().write_all(b"unread\n");
         return;
     }
     let held = input.held;
     let n = list(&file[..held], &mut out);
-    if !io::write_all(STDOUT_FILENO, &out[..n]) {
-        io::write_all(STDERR_FILENO, b"unwritten\n");
+    if rt.stdout().write_all(&out[..n]).is_err() {
+        let _ = rt.stderr().write_all(b"unwritten\n");
     }
 }

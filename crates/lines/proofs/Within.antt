@@ -1,7 +1,5 @@
 -- A count that was read keeps to its bound. Assumes nothing.
-use Rattle.std.proofs.Common.{◌≡◌, ℕ, ◌+◌, ◌*◌, ◌≤◌, Bool, false, List, [], ◌∷◌, length, eqb, leb, ltb, arith, ltb-false}
-use Rattle.numbers.specs.Arithmetic.{if◌then◌else◌}
-use Rattle.numbers.proofs.Choice.{by_test}
+use Rattle.std.proofs.Common.{◌≡◌, ℕ, ◌+◌, ◌*◌, ◌≤◌, Bool, true, false, List, [], ◌∷◌, length, eqb, leb, ltb, if◌then◌else◌, refl, arith, ltb-false}
 use Rattle.lines.specs.Digits.{digit_value, spelled, read_count}
 use Rattle.lines.specs.declared.digits.ReadCount.{ReadCount}
 use Rattle.lines.specs.declared.digits.ReadCount.TheVariants.{Given, Unreadable}
@@ -11,7 +9,8 @@ Within most (Given n) = n ≤ most
 Within most Unreadable = Unit {0}
 
 unless : (most : ℕ) (b : Bool) (y : ReadCount) → (b ≡ false → Within most y) → Within most (if b then Unreadable else y)
-unless most b y h = by_test (Within most) b Unreadable y (λ _. tt) h
+unless most true y h = tt
+unless most false y h = h refl
 
 spelled_within : (base most n : ℕ) (word : List ℕ) → n ≤ most → Within most (spelled base most n word)
 unfolding spelled

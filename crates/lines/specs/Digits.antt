@@ -1,8 +1,7 @@
 -- Numbers that words spell. Definitions only.
-use Rattle.std.specs.Prelude.{ℕ, ◌+◌, ◌*◌, ◌-◌, ◌^◌, List, [], ◌∷◌, eqb, leb, ltb, length}
+use Rattle.std.specs.Prelude.{ℕ, ◌+◌, ◌*◌, ◌-◌, ◌^◌, List, [], ◌∷◌, eqb, leb, ltb, length, if◌then◌else◌}
 use Rattle.std.specs.Float.{binary64}
 use Rattle.std.specs.Float.Ieee.{of_bits}
-use Rattle.numbers.specs.Arithmetic.{if◌then◌else◌}
 use Rattle.lines.specs.declared.digits.ReadCount.{ReadCount}
 use Rattle.lines.specs.declared.digits.ReadCount.TheVariants as count
 use Rattle.lines.specs.declared.digits.ReadFloat.{ReadFloat}

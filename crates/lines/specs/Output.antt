@@ -1,8 +1,7 @@
 -- Words in ASCII, and how they are put into a buffer. Definitions only.
-use Rattle.std.specs.Prelude.{ℕ, zero, suc, ◌+◌, ◌-◌, ◌/◌, ◌%◌, List, [], ◌∷◌, ◌++◌, eqb, ltb, Float, length, take, drop, set}
+use Rattle.std.specs.Prelude.{ℕ, zero, suc, ◌+◌, ◌-◌, ◌/◌, ◌%◌, List, [], ◌∷◌, ◌++◌, eqb, ltb, Float, length, take, drop, set, if◌then◌else◌}
 use Rattle.std.specs.Float.{binary64}
 use Rattle.std.specs.Float.Ieee.{to_bits}
-use Rattle.numbers.specs.Arithmetic.{if◌then◌else◌}
 
 -- the digit of a value below 16: `0` to `9`, then `A` to `F`
 unfoldable pub glyph : ℕ → ℕ

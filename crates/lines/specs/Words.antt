@@ -1,7 +1,6 @@
 -- The words of a line. Definitions only.
-use Rattle.std.specs.Prelude.{ℕ, ◌+◌, Bool, true, false, List, [], ◌∷◌, eqb, drop}
+use Rattle.std.specs.Prelude.{ℕ, ◌+◌, Bool, true, false, List, [], ◌∷◌, eqb, drop, if◌then◌else◌}
 use Rattle.std.specs.Bool.{beq}
-use Rattle.numbers.specs.Arithmetic.{if◌then◌else◌}
 use Rattle.lines.specs.declared.words.Word.{Word}
 
 -- how many spaces a list begins with, or how many bytes that are none

@@ -1,5 +1,5 @@
 -- Only a NaN differs from itself.
-use Rattle.std.proofs.Common.{◌≡◌, false, not, refl, subst}
+use Rattle.std.proofs.Common.{◌≡◌, false, not, subst}
 use denote.Floats.{passes}
 use lib.Dec.{T}
 use lib.Ieee.{Float, nan, inf, fin, ne, is_nan, to_bits}

@@ -1,7 +1,6 @@
 -- The bytes that were copied, and the space behind them, are what `put` puts.
-use Rattle.std.proofs.Common.{◌≡◌, ℕ, ◌+◌, ◌<◌, List, ◌++◌, length, take, get_or, set, arith, add-one, lt-ltb, length-append, length-set, length-take-le}
+use Rattle.std.proofs.Common.{◌≡◌, ℕ, ◌+◌, ◌<◌, List, ◌++◌, length, take, get_or, set, arith, add-one, drop-cons, lt-ltb, length-append, length-set, length-take-le}
 use Rattle.std.proofs.Math.Seq.{paste, paste-suc, take-length, set_at}
-use Rattle.numbers.proofs.Lists.{next_element}
 use Rattle.lines.specs.Output.{put}
 use Rattle.lines.proofs.output.put_word.Goals as goal
 
@@ -19,7 +18,8 @@ module _ (out word : List ℕ) (at : ℕ) (room : at + length word < length out)
         lt-ltb _ _ room,
         e,
         take-length word,
-        next_element out (at + length word) 0 room,
+        drop-cons out (at + length word) 0 room,
+        add-one (at + length word),
         set_at (take at out ++ word) _ _ 32 _ p,
       )
 

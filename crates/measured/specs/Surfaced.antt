@@ -1,6 +1,6 @@
 -- What bench/ reads of an answer: the sum of its numbers, 0 of a refusal. Definitions only.
-use Rattle.std.specs.Prelude.{[], ◌∷◌, Float}
-use Rattle.numbers.specs.Arithmetic.{◌+₆₄◌, if◌then◌else◌, 0f}
+use Rattle.std.specs.Prelude.{[], ◌∷◌, Float, if◌then◌else◌}
+use Rattle.numbers.specs.Arithmetic.{◌+₆₄◌, 0f}
 use Rattle.surfaces.specs.Refusal.{Told, done}
 use Rattle.surfaces.specs.Conic.{conic_meet_answer}
 use Rattle.surfaces.specs.Snell.{refract_answer}

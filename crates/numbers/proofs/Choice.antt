@@ -1,7 +1,6 @@
 -- Tests: what holds of both answers of one holds of its answer, and what `and` and `or` say of theirs. Assumes nothing.
-use Rattle.std.proofs.Common.{◌≡◌, Bool, true, false, not, ◌&&◌, ◌||◌, ◌⊎◌, refl, inl, inr, true≢false}
+use Rattle.std.proofs.Common.{◌≡◌, Bool, true, false, not, ◌&&◌, ◌||◌, ◌⊎◌, refl, inl, inr, true≢false, if◌then◌else◌}
 use mathlib.Core.Bool.{false≢true}
-use Rattle.numbers.specs.Arithmetic.{if◌then◌else◌}
 
 pub either : {A : Type 0} (P : A → Type 0) (b : Bool) (x y : A) → P x → P y → P (if b then x else y)
 either P true x y p q = p

@@ -1,5 +1,5 @@
 -- Roots of whole numbers: what `floor_root` and `rounded` are, and how long a root is. Assumes nothing.
-use Rattle.std.proofs.Common.{◌≡◌, ℕ, zero, suc, ◌+◌, ◌-◌, ◌*◌, ◌/◌, ◌^◌, ◌<◌, ◌≤◌, Bool, true, false, not, T, leb, ◌∙◌, lt_of_lt_of_le, le_of_suc-le-suc, not-suc-le-zero, mul-le-mul, le_antisymm, mul-lt-mul_of_pos_right, lt_of_not-le, mul-div_cancel, arith, lit≤, leb→le, pow_pos}
+use Rattle.std.proofs.Common.{◌≡◌, ℕ, zero, suc, ◌+◌, ◌-◌, ◌*◌, ◌/◌, ◌^◌, ◌<◌, ◌≤◌, Bool, true, false, not, T, leb, ◌∙◌, lt_of_lt_of_le, le_of_suc-le-suc, not-suc-le-zero, mul-le-mul, le_antisymm, mul-lt-mul_of_pos_right, lt_of_not-le, mul-div_cancel, arith, lit≤, leb→le, pow_pos, if◌then◌else◌}
 use Prim.Native.Nat.{Ordering}
 use Prim.Native.Nat.{compare}
 use Prim.Native.Nat.compare
@@ -8,7 +8,6 @@ use native.Mathlib.Decide.{dec_le}
 use lib.Dec.{nleb→lt}
 use lib.Ieee.{nearest, size}
 use lib.Ieee.Digits.{size-lt}
-use Rattle.numbers.specs.Arithmetic.{if◌then◌else◌}
 use Rattle.numbers.specs.Root.{root_below, floor_root, rounded, FloorRoot}
 use Rattle.numbers.specs.Parts.{Near}
 

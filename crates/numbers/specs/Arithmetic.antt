@@ -1,6 +1,6 @@
--- The notation that the rules of all crates share: arithmetic and order of binary64 numbers, a choice by a test, a list
--- that has a number, and the numbers that the sources write. Definitions only.
-use Rattle.std.specs.Prelude.{ℕ, ◌^◌, Bool, true, false, ◌||◌, List, [], ◌∷◌, ◌==◌, Float}
+-- The notation that the rules of all crates share: arithmetic and order of binary64 numbers, a list that has a number,
+-- and the numbers that the sources write. Definitions only.
+use Rattle.std.specs.Prelude.{ℕ, ◌^◌, Bool, false, ◌||◌, List, [], ◌∷◌, ◌==◌, Float}
 use Rattle.std.specs.Float.{binary64}
 use Rattle.std.specs.Float.Ieee.{round, add, sub, mul, div, lt, le}
 
@@ -10,7 +10,6 @@ infixl 70 ◌*₆₄◌
 infixl 70 ◌/₆₄◌
 infix 50 ◌<₆₄◌
 infix 50 ◌≤₆₄◌
-infix 5 if◌then◌else◌
 -- each rounds its exact result once, to the nearest binary64, ties to even
 abbrev pub ◌+₆₄◌ : Float → Float → Float
 a +₆₄ b = add binary64 a b
@@ -30,10 +29,6 @@ a <₆₄ b = lt a b
 
 abbrev pub ◌≤₆₄◌ : Float → Float → Bool
 a ≤₆₄ b = le a b
-
-abbrev pub if◌then◌else◌ : {A : Type 0} → Bool → A → A → A
-if true then a else b = a
-if false then a else b = b
 
 -- whether a number is one of a list
 unfoldable pub one_of : List ℕ → ℕ → Bool

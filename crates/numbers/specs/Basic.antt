@@ -1,8 +1,8 @@
 -- Absolute value, maximum, clamp and kinds of a binary64. Definitions only. (A NaN is `lib.Ieee`'s `is_nan`, a finite
 -- number `lib.Ieee.Scale`'s `finite`.)
-use Rattle.std.specs.Prelude.{Bool, true, false, is_nan}
+use Rattle.std.specs.Prelude.{Bool, true, false, is_nan, if◌then◌else◌}
 use lib.Ieee.{Float, nan, inf, fin}
-use Rattle.numbers.specs.Arithmetic.{if◌then◌else◌, ◌<₆₄◌, 0f, 1f}
+use Rattle.numbers.specs.Arithmetic.{◌<₆₄◌, 0f, 1f}
 
 unfoldable pub magnitude : Float → Float
 magnitude nan = nan

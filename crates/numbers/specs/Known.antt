@@ -1,10 +1,10 @@
 -- The rules at known values: one list, which one theorem covers. A row has a rule's value and what it should be, both
 -- by their bit patterns. Assumes nothing.
-use Rattle.std.specs.Prelude.{ℕ, Bool, false, List, [], ◌∷◌, Float}
+use Rattle.std.specs.Prelude.{ℕ, Bool, false, List, [], ◌∷◌, Float, if◌then◌else◌}
 use Rattle.std.specs.Float.{nan, inf, binary64}
 use Rattle.std.specs.Float.Ieee.{of_bits, to_bits, neg}
 use Rattle.std.specs.Float.Ieee.Scale.{finite}
-use Rattle.numbers.specs.Arithmetic.{◌+₆₄◌, ◌-₆₄◌, ◌*₆₄◌, ◌/₆₄◌, ◌<₆₄◌, ◌≤₆₄◌, if◌then◌else◌, decimal, 0f, ½, 1f}
+use Rattle.numbers.specs.Arithmetic.{◌+₆₄◌, ◌-₆₄◌, ◌*₆₄◌, ◌/₆₄◌, ◌<₆₄◌, ◌≤₆₄◌, decimal, 0f, ½, 1f}
 use Rattle.numbers.specs.Arithmetic.{1½, 2f, 4f, 1e-4, 1e-7, 1e-11, 1e-12, 1e-14, 1e-15, 1e-30}
 use Rattle.numbers.specs.Basic.{magnitude, larger, clamped, infinite}
 use Rattle.numbers.specs.Root.{root}

@@ -1,5 +1,6 @@
 -- What a record that is read says of its bytes: a good one its shape, its numbers and its end, a bad one its number.
 -- Assumes nothing.
+use Rattle.std.specs.Prelude.{if◌then◌else◌}
 use Prim.Native.Nat.{ℕ, ◌+◌, ◌/◌, ◌%◌, ◌≤◌}
 use native.Mathlib.Omega.{arith}
 use mathlib.Core.Path.{◌≡◌, refl}
@@ -9,7 +10,7 @@ use mathlib.Core.List.{List, [], ◌∷◌}
 use lib.ListN.{length}
 use lib.Dec.{eqb}
 use lib.Ieee.Scale.{finite}
-use Rattle.numbers.specs.Arithmetic.{◌<₆₄◌, ◌≤₆₄◌, if◌then◌else◌, 0f}
+use Rattle.numbers.specs.Arithmetic.{◌<₆₄◌, ◌≤₆₄◌, 0f}
 use Rattle.surfaces.specs.Types.{every_finite}
 use Rattle.numbers.specs.Arithmetic.{one_of}
 use Rattle.numbers.proofs.Choice.{either}

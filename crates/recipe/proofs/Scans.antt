@@ -1,5 +1,6 @@
 -- How a scan ends: by the recipe's end or with as many records as were asked for, or at a record that is one too many
 -- or bad, before the end. Assumes nothing.
+use Rattle.std.specs.Prelude.{if◌then◌else◌}
 use Prim.Native.Nat.{ℕ, zero, suc, ◌≤◌, ◌<◌, zero-le}
 use native.Mathlib.Omega.{arith}
 use mathlib.Core.Path.{◌≡◌, refl}
@@ -8,7 +9,6 @@ use mathlib.Core.List.{List, [], ◌∷◌}
 use lib.ListN.{length}
 use lib.Dec.{ltb}
 use borrow.Author.Tests.{lt-ltb, le-ltb, ltb-true, ltb-false}
-use Rattle.numbers.specs.Arithmetic.{if◌then◌else◌}
 use Rattle.numbers.specs.Arithmetic.{one_of}
 use Rattle.recipe.specs.declared.record.Optic.{Optic}
 use Rattle.recipe.specs.Record.{Read, bad, good, record_at}

@@ -1,5 +1,6 @@
 -- What the shape of a record tells of its places: all that is read of it lies within it, and it within the recipe.
 -- Assumes nothing.
+use Rattle.std.specs.Prelude.{if◌then◌else◌}
 use Prim.Native.Nat.{ℕ, ◌+◌, ◌-◌, ◌*◌, ◌/◌, ◌%◌, ◌≤◌}
 use mathlib.Core.Path.{◌≡◌, refl}
 use mathlib.Core.Logic.{◌⊎◌, inl, inr, ⊎_elim}
@@ -9,7 +10,6 @@ use native.Mathlib.Omega.{arith}
 use lib.ListN.{length}
 use lib.Dec.{eqb, leb, lit≤}
 use borrow.Author.Tests.{leb-true, leb-false, eqb-true, le-leb, lt-leb}
-use Rattle.numbers.specs.Arithmetic.{if◌then◌else◌}
 use Rattle.numbers.proofs.Choice.{either, both}
 use Rattle.recipe.specs.Source.{source_bytes, is_source}
 use Rattle.recipe.specs.Record.{length_at, kind_at, end_at, length_fits, formed_at, longest, shaped_at, semi_slot}

@@ -1,7 +1,6 @@
 -- A recipe's surfaces, all or the first ones, or its first refusal and where; what a check says of them. Definitions
 -- only.
-use Rattle.std.specs.Prelude.{ℕ, zero, suc, ◌+◌, Bool, ◌&&◌, List, [], ◌∷◌, length, get_or, eqb, ltb}
-use Rattle.numbers.specs.Arithmetic.{if◌then◌else◌}
+use Rattle.std.specs.Prelude.{ℕ, zero, suc, ◌+◌, Bool, ◌&&◌, List, [], ◌∷◌, length, get_or, eqb, ltb, if◌then◌else◌}
 use Rattle.surfaces.specs.Surface.{limit_of}
 use Rattle.recipe.specs.declared.record.Optic.{Optic}
 use Rattle.recipe.specs.declared.scan.Checked.{Checked}

@@ -1,6 +1,6 @@
 -- Kind 0, which stands first in a program's file: origin, direction and starting index. Definitions only.
-use Rattle.std.specs.Prelude.{ℕ, ◌+◌, List, Bool, ◌&&◌, length, eqb, leb}
-use Rattle.numbers.specs.Arithmetic.{if◌then◌else◌, 0f}
+use Rattle.std.specs.Prelude.{ℕ, ◌+◌, List, Bool, ◌&&◌, length, eqb, leb, if◌then◌else◌}
+use Rattle.numbers.specs.Arithmetic.{0f}
 use Rattle.surfaces.specs.Types.{vec, no_ray}
 use Rattle.surfaces.specs.declared.types.Vec3.{Vec3}
 use Rattle.surfaces.specs.declared.types.Ray.{Ray}

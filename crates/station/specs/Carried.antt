@@ -1,7 +1,6 @@
 -- What a controller may count on beside each promise: demand 3 (SCOPE D3) through the lent arrays, and counts that no
 -- state holds. Definitions only.
-use Rattle.std.specs.Prelude.{ℕ, ◌*◌, ◌≤◌, ◌≡◌, ◌⊎◌, List, [], ◌∷◌, length, get_or, ltb, Float}
-use Rattle.numbers.specs.Arithmetic.{if◌then◌else◌}
+use Rattle.std.specs.Prelude.{ℕ, ◌*◌, ◌≤◌, ◌≡◌, ◌⊎◌, List, [], ◌∷◌, length, get_or, ltb, Float, if◌then◌else◌}
 use Rattle.surfaces.specs.declared.types.Ray.{Ray}
 use Rattle.recipe.specs.Scan.{Scan, refused, items}
 use Rattle.trace.specs.Leg.{width}

@@ -1,7 +1,6 @@
 -- The state as C lends it, and what a call leaves in all that it is lent. Definitions only.
-use Rattle.std.specs.Prelude.{ℕ, List, [], ◌∷◌, get_or, eqb, ltb, Float}
+use Rattle.std.specs.Prelude.{ℕ, List, [], ◌∷◌, get_or, eqb, ltb, Float, if◌then◌else◌}
 use Rattle.std.specs.Float.{nan}
-use Rattle.numbers.specs.Arithmetic.{if◌then◌else◌}
 use Rattle.surfaces.specs.Types.{ray_of}
 use Rattle.trace.specs.declared.state.State.{State}
 use Rattle.trace.specs.declared.run.Answer.{Answer}

@@ -1,4 +1,5 @@
 -- Two numbers above 0 with one pattern are one number, so that the root of either is the other's. Assumes nothing.
+use Rattle.std.specs.Prelude.{if◌then◌else◌}
 use mathlib.Core.Path.{◌≡◌, refl, sym, ap, ◌∙◌}
 use mathlib.Core.Bool.{Bool, true, false, ◌&&◌, false≢true}
 use lib.Dec.{T, eqb}
@@ -6,7 +7,7 @@ use borrow.Author.Tests.{eqb-true}
 use lib.Ieee.{Float, binary64, fits, to_bits, of_bits, lt, is_nan}
 use lib.Ieee.Fits.{round-fits}
 use lib.Ieee.Bits.{of_bits-to_bits}
-use Rattle.numbers.specs.Arithmetic.{if◌then◌else◌, decimal, 0f}
+use Rattle.numbers.specs.Arithmetic.{decimal, 0f}
 use Rattle.numbers.specs.Basic.{larger, negative}
 use Rattle.numbers.specs.Root.{root}
 use Rattle.surfaces.specs.Parts.{same_above0, root_again}

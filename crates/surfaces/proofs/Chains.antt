@@ -1,10 +1,10 @@
 -- A chain of passes ends as the kind's own rule says. Assumes nothing.
+use Rattle.std.specs.Prelude.{if◌then◌else◌}
 use Prim.Native.Nat.{ℕ, zero, suc, ◌+◌, ◌<◌, ◌≤◌}
 use mathlib.Core.Path.{◌≡◌, refl, sym, ap, ◌∙◌}
 use mathlib.Core.Bool.{Bool, true, false}
 use native.Mathlib.Omega.{arith}
 use lib.Ieee.{Float}
-use Rattle.numbers.specs.Arithmetic.{if◌then◌else◌}
 use Rattle.surfaces.specs.Refusal.{Told, Ended, ended}
 use Rattle.surfaces.specs.Conic.{parallel}
 use Rattle.surfaces.specs.Newton.{Shape, going, pass_at, vertex_plane, passes_from, newton_end, limited_pass}

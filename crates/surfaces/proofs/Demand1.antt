@@ -1,11 +1,11 @@
 -- Demand 1 for the public functions: the raw rules' numbers, and from these what is handed out. Assumes nothing.
+use Rattle.std.specs.Prelude.{if◌then◌else◌}
 use Prim.Native.Nat.{ℕ, zero, suc}
 use mathlib.Core.Path.{◌≡◌, refl}
 use mathlib.Core.Bool.{Bool, true, false, ◌&&◌}
 use mathlib.Core.List.{List, [], ◌∷◌}
 use lib.Ieee.{Float}
 use lib.Ieee.Scale.{finite}
-use Rattle.numbers.specs.Arithmetic.{if◌then◌else◌}
 use Rattle.surfaces.specs.Types.{no_meridians, both_finite}
 use Rattle.surfaces.specs.Refusal.{Told, Ended, gives, handed_out, line_of, ended}
 use Rattle.surfaces.specs.Snell.{reflected, reflect_answer, bent, refracted, refract_answer}

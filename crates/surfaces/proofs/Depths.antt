@@ -1,9 +1,10 @@
 -- The sags and slopes that the parts of the code speak of are the rules' own. Assumes nothing.
+use Rattle.std.specs.Prelude.{if◌then◌else◌}
 use mathlib.Core.Path.{◌≡◌, refl, sym, ◌∙◌}
 use mathlib.Core.Bool.{Bool, true, false, not, ◌&&◌, ◌||◌}
 use lib.Ieee.{Float}
 use lib.Ieee.Scale.{finite}
-use Rattle.numbers.specs.Arithmetic.{if◌then◌else◌, ◌+₆₄◌, ◌-₆₄◌, ◌*₆₄◌, ◌/₆₄◌, ◌<₆₄◌, ◌≤₆₄◌, 0f, 1f, 2f, 1e-15}
+use Rattle.numbers.specs.Arithmetic.{◌+₆₄◌, ◌-₆₄◌, ◌*₆₄◌, ◌/₆₄◌, ◌<₆₄◌, ◌≤₆₄◌, 0f, 1f, 2f, 1e-15}
 use Rattle.numbers.specs.Basic.{magnitude, larger}
 use Rattle.surfaces.specs.Types.{terms}
 use Rattle.surfaces.specs.Refusal.{Told, gives, refused, done, after, no_number}

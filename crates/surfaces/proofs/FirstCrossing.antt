@@ -1,4 +1,5 @@
 -- A conic that is not a plane is met at the first crossing. Assumes nothing.
+use Rattle.std.specs.Prelude.{if◌then◌else◌}
 use Prim.Native.Nat.{ℕ}
 use mathlib.Core.Path.{◌≡◌, refl, sym, ap, ◌∙◌}
 use mathlib.Core.Logic.{◌≢◌}
@@ -7,7 +8,7 @@ use mathlib.Core.List.{List, [], ◌∷◌}
 use lib.Dec.{T, eqb}
 use lib.Ieee.{Float, binary64, fits, neg}
 use lib.Ieee.Fits.{div-fits}
-use Rattle.numbers.specs.Arithmetic.{◌/₆₄◌, ◌<₆₄◌, if◌then◌else◌, one_of, 0f, 1e-7, 1e-15, 1e-30}
+use Rattle.numbers.specs.Arithmetic.{◌/₆₄◌, ◌<₆₄◌, one_of, 0f, 1e-7, 1e-15, 1e-30}
 use Rattle.numbers.specs.Basic.{magnitude, larger}
 use Rattle.numbers.proofs.Choice.{either, by_test, through, both}
 use Rattle.numbers.proofs.Lists.{each}

@@ -1,4 +1,5 @@
 -- One pass after another, each limited, is Newton's method from the start. Assumes nothing.
+use Rattle.std.specs.Prelude.{if◌then◌else◌}
 use Prim.Native.Nat.{ℕ, zero, suc, ◌+◌, ◌-◌, ◌<◌}
 use mathlib.Core.Path.{◌≡◌, refl, sym, ap, ◌∙◌}
 use mathlib.Core.Bool.{Bool, true, false, ◌&&◌, false≢true}
@@ -6,7 +7,6 @@ use native.Mathlib.Omega.{arith}
 use lib.Dec.{leb, eqb-suc-zero}
 use borrow.Author.Tests.{leb-false, le-leb, lt-leb}
 use lib.Ieee.{Float}
-use Rattle.numbers.specs.Arithmetic.{if◌then◌else◌}
 use Rattle.surfaces.specs.Refusal.{Told, Ended, ended, no_crossing}
 use Rattle.surfaces.specs.Conic.{parallel}
 use Rattle.surfaces.specs.Newton.{Shape, going, pass_at, vertex_plane, passes_from, newton_end, next_pass, limited_pass}

@@ -1,12 +1,13 @@
 -- The slopes of a pass: the root and the other number that the sag had at the same point are those that the slopes' own
 -- rule finds. Assumes nothing.
+use Rattle.std.specs.Prelude.{if◌then◌else◌}
 use mathlib.Core.Path.{◌≡◌, refl, sym, ap, ◌∙◌}
 use mathlib.Core.Bool.{Bool, true, false, not, ◌&&◌, ◌||◌, true≢false, false≢true}
 use lib.Dec.{eqb}
 use lib.Ieee.Fits.{sub-fits}
 use lib.Ieee.{binary64, Float, neg}
 use lib.Ieee.Scale.{finite}
-use Rattle.numbers.specs.Arithmetic.{if◌then◌else◌, ◌+₆₄◌, ◌-₆₄◌, ◌*₆₄◌, ◌/₆₄◌, ◌<₆₄◌, 0f, 1f}
+use Rattle.numbers.specs.Arithmetic.{◌+₆₄◌, ◌-₆₄◌, ◌*₆₄◌, ◌/₆₄◌, ◌<₆₄◌, 0f, 1f}
 use Rattle.numbers.specs.Basic.{larger}
 use Rattle.numbers.specs.Root.{root}
 use Rattle.surfaces.specs.Types.{meridians, no_meridians, terms}

@@ -1,9 +1,9 @@
 -- What an answer tells is enough to find the answer again. Assumes nothing.
+use Rattle.std.specs.Prelude.{if◌then◌else◌}
 use Prim.Native.Nat.{◌+◌, ◌-◌}
 use mathlib.Core.Path.{◌≡◌, refl, sym, ap, ◌∙◌}
 use native.Mathlib.Omega.{arith}
 use lib.Dec.{eqb}
-use Rattle.numbers.specs.Arithmetic.{if◌then◌else◌}
 use Rattle.surfaces.specs.Refusal.{Told, done, line_of, acceptance_line, told_number, told_sag, told_pair}
 use Rattle.surfaces.specs.Refusal.{told_direction, told_crossing, told_meet, told_conic, told_even, told_odd}
 use Rattle.surfaces.specs.Refusal.{told_biconic, told_toroid, told_passed, told_progress, told_turned, OneToOne}

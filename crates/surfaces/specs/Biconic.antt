@@ -1,7 +1,7 @@
 -- Biconic and toroidal surfaces. Definitions only.
-use Rattle.std.specs.Prelude.{Bool, true, not, ◌&&◌, Float}
+use Rattle.std.specs.Prelude.{Bool, true, not, ◌&&◌, Float, if◌then◌else◌}
 use Rattle.std.specs.Float.Ieee.Scale.{finite}
-use Rattle.numbers.specs.Arithmetic.{◌+₆₄◌, ◌-₆₄◌, ◌*₆₄◌, ◌/₆₄◌, ◌<₆₄◌, ◌≤₆₄◌, if◌then◌else◌, 0f, 1f, 2f, 1e-14, 1e-15}
+use Rattle.numbers.specs.Arithmetic.{◌+₆₄◌, ◌-₆₄◌, ◌*₆₄◌, ◌/₆₄◌, ◌<₆₄◌, ◌≤₆₄◌, 0f, 1f, 2f, 1e-14, 1e-15}
 use Rattle.numbers.specs.Basic.{magnitude, larger}
 use Rattle.numbers.specs.Root.{root}
 use Rattle.surfaces.specs.Types.{zeros, all_finite, meridians, no_meridians, both_finite}

@@ -1,8 +1,8 @@
 -- Conic surfaces: constructors, radius, sag, normal, and where a ray meets one. Definitions only.
-use Rattle.std.specs.Prelude.{Bool, not, ◌&&◌, ◌||◌, List, [], ◌∷◌, Float}
+use Rattle.std.specs.Prelude.{Bool, not, ◌&&◌, ◌||◌, List, [], ◌∷◌, Float, if◌then◌else◌}
 use Rattle.std.specs.Float.Ieee.{neg, is_nan}
 use Rattle.std.specs.Float.Ieee.Scale.{finite}
-use Rattle.numbers.specs.Arithmetic.{◌+₆₄◌, ◌-₆₄◌, ◌*₆₄◌, ◌/₆₄◌, ◌<₆₄◌, ◌≤₆₄◌, if◌then◌else◌, 0f, ½, 1f, 2f, 4f, 1e-4}
+use Rattle.numbers.specs.Arithmetic.{◌+₆₄◌, ◌-₆₄◌, ◌*₆₄◌, ◌/₆₄◌, ◌<₆₄◌, ◌≤₆₄◌, 0f, ½, 1f, 2f, 4f, 1e-4}
 use Rattle.numbers.specs.Arithmetic.{1e-7, 1e-15, 1e-30}
 use Rattle.numbers.specs.Basic.{magnitude, larger, infinite}
 use Rattle.numbers.specs.Root.{root}

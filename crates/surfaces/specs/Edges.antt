@@ -2,10 +2,10 @@
 -- formulas where each of their terms counts: one list, which one theorem covers (P4). A row has a rule's answer and the
 -- one worked out by hand, each as a number of the table, the passes where there are any, and the bit patterns of all
 -- values. Assumes nothing.
-use Rattle.std.specs.Prelude.{ℕ, ◌+◌, ◌-◌, ◌*◌, ◌^◌, Bool, true, false, ◌&&◌, List, [], ◌∷◌, ◌++◌, eqb, length, take, Float}
+use Rattle.std.specs.Prelude.{ℕ, ◌+◌, ◌-◌, ◌*◌, ◌^◌, Bool, true, false, ◌&&◌, List, [], ◌∷◌, ◌++◌, eqb, length, take, Float, if◌then◌else◌}
 use Rattle.std.specs.Float.{nan, inf, binary64}
 use Rattle.std.specs.Float.Ieee.{of_bits, to_bits, neg, round}
-use Rattle.numbers.specs.Arithmetic.{if◌then◌else◌, 0f, ½, 1f, 2f, 4f, 1e-4}
+use Rattle.numbers.specs.Arithmetic.{0f, ½, 1f, 2f, 4f, 1e-4}
 use Rattle.surfaces.specs.Types.{vec, backwards, point_at, landing}
 use Rattle.surfaces.specs.Types.{meridians, no_landing, no_hit}
 use Rattle.surfaces.specs.Types.{no_coefficients, polynomial}

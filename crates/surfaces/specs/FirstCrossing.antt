@@ -1,9 +1,9 @@
 -- Which crossing it is (SCOPE S10): a conic that is not a plane is met at the first, the least candidate that meets
 -- the sheet rule. Candidates are told by the quadratic's coefficients and the limits alone, without order or search,
 -- and the sheet rule by the sag. docs/CROSSINGS.md has it in words. Definitions only.
-use Rattle.std.specs.Prelude.{◌≡◌, ◌≢◌, ◌↔◌, true, false, ◌&&◌, Float}
+use Rattle.std.specs.Prelude.{◌≡◌, ◌≢◌, ◌↔◌, true, false, ◌&&◌, Float, if◌then◌else◌}
 use Rattle.std.specs.Float.Ieee.{neg}
-use Rattle.numbers.specs.Arithmetic.{◌-₆₄◌, ◌/₆₄◌, ◌<₆₄◌, if◌then◌else◌, 0f, 1e-4, 1e-7, 1e-15, 1e-30}
+use Rattle.numbers.specs.Arithmetic.{◌-₆₄◌, ◌/₆₄◌, ◌<₆₄◌, 0f, 1e-4, 1e-7, 1e-15, 1e-30}
 use Rattle.numbers.specs.Basic.{magnitude, larger}
 use Rattle.surfaces.specs.Types.{distance, point_at, ray_finite, landing, no_hit, hit_finite}
 use Rattle.surfaces.specs.Refusal.{Told, plain, vignetted, gives, refused, done, after, checked9}

@@ -1,7 +1,7 @@
 -- Newton's method, over what a kind of surface brings to it. Definitions only.
-use Rattle.std.specs.Prelude.{ℕ, zero, suc, ◌+◌, Bool, not, ◌&&◌, eqb, leb, Float}
+use Rattle.std.specs.Prelude.{ℕ, zero, suc, ◌+◌, Bool, not, ◌&&◌, eqb, leb, Float, if◌then◌else◌}
 use Rattle.std.specs.Float.Ieee.Scale.{finite}
-use Rattle.numbers.specs.Arithmetic.{◌+₆₄◌, ◌-₆₄◌, ◌*₆₄◌, ◌/₆₄◌, ◌<₆₄◌, if◌then◌else◌, 0f, 1½, 1e-11, 1e-12, 1e-15}
+use Rattle.numbers.specs.Arithmetic.{◌+₆₄◌, ◌-₆₄◌, ◌*₆₄◌, ◌/₆₄◌, ◌<₆₄◌, 0f, 1½, 1e-11, 1e-12, 1e-15}
 use Rattle.numbers.specs.Basic.{magnitude}
 use Rattle.surfaces.specs.Types.{distance, point_at, landing, no_landing, landing_finite, ray_finite}
 use Rattle.surfaces.specs.Refusal.{handed_out, Told, Ended, gives, done, again, ended, no_crossing}

@@ -1,7 +1,7 @@
 -- What comes back, in SCOPE's terms (T1, T2): a line of its table and the answer's values. The rules speak in these
 -- terms, and what each answer of the code tells stands below. Definitions only.
-use Rattle.std.specs.Prelude.{ℕ, ◌+◌, Bool, false, not, ◌&&◌, ◌||◌, ◌≡◌, eqb, leb, Float}
-use Rattle.numbers.specs.Arithmetic.{◌<₆₄◌, if◌then◌else◌, 0f}
+use Rattle.std.specs.Prelude.{ℕ, ◌+◌, Bool, false, not, ◌&&◌, ◌||◌, ◌≡◌, eqb, leb, Float, if◌then◌else◌}
+use Rattle.numbers.specs.Arithmetic.{◌<₆₄◌, 0f}
 use Rattle.surfaces.specs.Types.{zeros, no_meridians, landing, no_landing, no_hit, no_coefficients}
 use Rattle.surfaces.specs.declared.types.Vec3.{Vec3}
 use Rattle.surfaces.specs.declared.types.Landing.{Landing}

@@ -1,7 +1,7 @@
 -- What every sag but the conic's has: the root of a radicand that may lie a little below 0. Definitions only.
-use Rattle.std.specs.Prelude.{Float}
+use Rattle.std.specs.Prelude.{Float, if◌then◌else◌}
 use Rattle.std.specs.Float.Ieee.{neg}
-use Rattle.numbers.specs.Arithmetic.{◌<₆₄◌, if◌then◌else◌, 0f, 1e-12}
+use Rattle.numbers.specs.Arithmetic.{◌<₆₄◌, 0f, 1e-12}
 use Rattle.numbers.specs.Basic.{larger}
 use Rattle.numbers.specs.Root.{root}
 use Rattle.surfaces.specs.Refusal.{Told, gives, no_number}

@@ -1,8 +1,8 @@
 -- Reflection and refraction. Definitions only.
-use Rattle.std.specs.Prelude.{Bool, not, ◌&&◌, ◌||◌, Float}
+use Rattle.std.specs.Prelude.{Bool, not, ◌&&◌, ◌||◌, Float, if◌then◌else◌}
 use Rattle.std.specs.Float.Ieee.{neg}
 use Rattle.std.specs.Float.Ieee.Scale.{finite}
-use Rattle.numbers.specs.Arithmetic.{◌+₆₄◌, ◌-₆₄◌, ◌*₆₄◌, ◌/₆₄◌, ◌<₆₄◌, ◌≤₆₄◌, if◌then◌else◌, 0f, 1f, 2f, 1e-30}
+use Rattle.numbers.specs.Arithmetic.{◌+₆₄◌, ◌-₆₄◌, ◌*₆₄◌, ◌/₆₄◌, ◌<₆₄◌, ◌≤₆₄◌, 0f, 1f, 2f, 1e-30}
 use Rattle.numbers.specs.Basic.{larger, clamped}
 use Rattle.numbers.specs.Root.{root}
 use Rattle.surfaces.specs.Types.{vec, zeros, dot_of, squared_length, over_of, all_finite}

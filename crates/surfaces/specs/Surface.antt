@@ -1,6 +1,6 @@
 -- The kinds of surfaces together, for a trace: one pass, what ends a surface, and how a ray goes on. Definitions only.
-use Rattle.std.specs.Prelude.{ℕ, zero, suc, ◌≤◌, ◌≡◌, true, false, Float}
-use Rattle.numbers.specs.Arithmetic.{◌<₆₄◌, if◌then◌else◌, 0f}
+use Rattle.std.specs.Prelude.{ℕ, zero, suc, ◌≤◌, ◌≡◌, true, false, Float, if◌then◌else◌}
+use Rattle.numbers.specs.Arithmetic.{◌<₆₄◌, 0f}
 use Rattle.surfaces.specs.Types.{dot_of, no_polynomial}
 use Rattle.surfaces.specs.Refusal.{Told, Ended, gives, after, again, ended, no_leaving}
 use Rattle.surfaces.specs.Snell.{reflected, refracted}

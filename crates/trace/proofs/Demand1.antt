@@ -1,4 +1,5 @@
 -- Demand 1: which numbers and places each call answers, and what a refused one leaves. Assumes nothing.
+use Rattle.std.specs.Prelude.{if◌then◌else◌}
 use Prim.Native.Nat.{ℕ, suc, ◌+◌, ◌*◌, ◌≤◌}
 use mathlib.Core.Path.{◌≡◌, refl, sym, ◌∙◌, ap, subst}
 use mathlib.Core.Logic.{◌≢◌, ◌↔◌, ◌⊎◌, inl, inr}
@@ -11,7 +12,7 @@ use lib.Dec.{eqb, ltb, leb}
 use lib.Ieee.{Float}
 use lib.Ieee.Scale.{finite}
 use borrow.Author.Tests.{ltb-false, le-ltb}
-use Rattle.numbers.specs.Arithmetic.{◌≤₆₄◌, if◌then◌else◌, 0f}
+use Rattle.numbers.specs.Arithmetic.{◌≤₆₄◌, 0f}
 use Rattle.surfaces.specs.Types.{ray_finite}
 use Rattle.numbers.specs.Arithmetic.{one_of}
 use Rattle.surfaces.specs.declared.types.Ray.{Ray}

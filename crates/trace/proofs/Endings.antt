@@ -1,8 +1,8 @@
 -- What a surface's end tells: a hit of finite numbers, or a number that stops the trace. Assumes nothing.
+use Rattle.std.specs.Prelude.{if◌then◌else◌}
 use Prim.Native.Nat.{ℕ}
 use mathlib.Core.Path.{◌≡◌, refl, sym, ◌∙◌}
 use mathlib.Core.Bool.{Bool, true, false, not, ◌&&◌, false≢true}
-use Rattle.numbers.specs.Arithmetic.{if◌then◌else◌}
 use Rattle.surfaces.specs.Refusal.{Told, gives, refused, plain, done, after, stops}
 use Rattle.surfaces.specs.Surface.{turn_answer}
 use Rattle.surfaces.specs.declared.types.Landing.{Landing}

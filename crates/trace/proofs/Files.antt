@@ -1,4 +1,5 @@
 -- A program's file: the record of the ray, and the start on the rest. Assumes nothing.
+use Rattle.std.specs.Prelude.{if◌then◌else◌}
 use Prim.Native.Nat.{ℕ, ◌+◌, ◌≤◌}
 use mathlib.Core.Path.{◌≡◌, refl, sym, ◌∙◌, ap}
 use mathlib.Core.Logic.{◌≢◌}
@@ -9,7 +10,6 @@ use lib.ListN.{length, drop}
 use lib.Dec.{eqb}
 use lib.Ieee.{Float}
 use borrow.Author.Tests.{eq-eqb, ne_eqb, eqb-true, eqb-false}
-use Rattle.numbers.specs.Arithmetic.{if◌then◌else◌}
 use Rattle.recipe.specs.declared.scan.Checked.{Checked}
 use Rattle.recipe.specs.declared.source.Source.{Source}
 use Rattle.recipe.specs.Scan.{Item, Scan, refused, items, nothing, scan, says, check_of}

@@ -1,4 +1,5 @@
 -- Which states fit a recipe, that a step keeps them fitting, and what that says of a check's notes. Assumes nothing.
+use Rattle.std.specs.Prelude.{if◌then◌else◌}
 use Prim.Native.Nat.{ℕ, ◌+◌, ◌*◌, ◌≤◌, ◌<◌}
 use mathlib.Core.Path.{◌≡◌, refl, sym, ◌∙◌, ap, subst}
 use mathlib.Core.List.{List}
@@ -11,7 +12,7 @@ use lib.Dec.{eqb, ltb, leb}
 use lib.Ieee.{Float}
 use lib.Ieee.Scale.{finite}
 use borrow.Author.Tests.{eq-eqb, ne_eqb, lt-ltb, le-leb, eqb-true, eqb-false, ltb-true, leb-true, not-true}
-use Rattle.numbers.specs.Arithmetic.{◌≤₆₄◌, if◌then◌else◌, 0f}
+use Rattle.numbers.specs.Arithmetic.{◌≤₆₄◌, 0f}
 use Rattle.surfaces.specs.Types.{all_finite, ray_finite}
 use Rattle.surfaces.specs.Refusal.{Told, done, stops}
 use Rattle.surfaces.specs.Newton.{going}

@@ -1,4 +1,5 @@
 -- A recipe that is too long is refused by its first bytes. Assumes nothing.
+use Rattle.std.specs.Prelude.{if◌then◌else◌}
 use Prim.Native.Nat.{ℕ, zero, suc, ◌+◌, ◌<◌}
 use mathlib.Core.Path.{◌≡◌, subst}
 use mathlib.Core.Logic.{◌≢◌}
@@ -10,7 +11,6 @@ use lib.ListN.{length, take, drop, length-drop}
 use lib.Seq.{take-nil}
 use lib.Dec.{eqb}
 use lib.Ieee.{Float}
-use Rattle.numbers.specs.Arithmetic.{if◌then◌else◌}
 use Rattle.surfaces.specs.declared.types.Ray.{Ray}
 use Rattle.recipe.specs.Record.{longest}
 use Rattle.recipe.specs.Source.{source_bytes, source_of}

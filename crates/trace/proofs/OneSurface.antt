@@ -1,4 +1,5 @@
 -- One surface's record beside the full trace, and beside the cut recipe. Assumes nothing.
+use Rattle.std.specs.Prelude.{if◌then◌else◌}
 use Prim.Native.Nat.{ℕ, suc, ◌*◌, ◌≤◌, ◌<◌}
 use mathlib.Core.Path.{◌≡◌, refl, sym, ◌∙◌, ap}
 use mathlib.Core.List.{List}
@@ -9,7 +10,7 @@ use lib.Seq.{length-take-le}
 use lib.Dec.{eqb, ltb, leb}
 use lib.Ieee.{Float}
 use borrow.Author.Tests.{ltb-true, lt-leb, leb-false, eqb-true, eqb-false}
-use Rattle.numbers.specs.Arithmetic.{if◌then◌else◌, 0f}
+use Rattle.numbers.specs.Arithmetic.{0f}
 use Rattle.surfaces.specs.declared.types.Ray.{Ray}
 use Rattle.recipe.specs.Scan.{Item, Scan, refused, items}
 use Rattle.recipe.proofs.Records.{not_1}

@@ -1,11 +1,11 @@
 -- A surface's passes, one by one, end as its own rule says. Assumes nothing.
+use Rattle.std.specs.Prelude.{if◌then◌else◌}
 use Prim.Native.Nat.{ℕ, zero, suc, ◌+◌}
 use mathlib.Core.Path.{◌≡◌, refl, sym, ◌∙◌, ap, subst}
 use mathlib.Core.Bool.{Bool, true, false, false≢true}
 use native.Mathlib.Omega.{arith}
 use native.Mathlib.Numerals.{add-one}
 use lib.Ieee.{Float}
-use Rattle.numbers.specs.Arithmetic.{if◌then◌else◌}
 use Rattle.surfaces.specs.Refusal.{Told, Ended, ended, done, stops}
 use Rattle.surfaces.specs.Newton.{going}
 use Rattle.surfaces.specs.Surface.{pass_answer, surface_end, limit_of, chain_by, chain}

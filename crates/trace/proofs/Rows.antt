@@ -1,5 +1,6 @@
 -- The records of an unbroken trace by their surfaces' numbers: where they stand in a buffer, that none depends on the
 -- surfaces behind it, and which are blank. Assumes nothing.
+use Rattle.std.specs.Prelude.{if◌then◌else◌}
 use Prim.Native.Nat.{ℕ, zero, suc, ◌+◌, ◌-◌, ◌*◌, ◌≤◌, ◌<◌}
 use mathlib.Core.Path.{◌≡◌, refl, sym, ◌∙◌, ap}
 use mathlib.Core.List.{List, [], ◌∷◌}
@@ -9,7 +10,7 @@ use native.Mathlib.Nat.{not-suc-le-zero, sub-zero}
 use lib.ListN.{length, take}
 use lib.Seq.{take_at, drop-append-add}
 use lib.Ieee.{Float}
-use Rattle.numbers.specs.Arithmetic.{if◌then◌else◌, 0f}
+use Rattle.numbers.specs.Arithmetic.{0f}
 use Rattle.numbers.proofs.Choice.{either, through}
 use Rattle.surfaces.specs.Refusal.{Ended, Told, done}
 use Rattle.surfaces.specs.Surface.{surface_end}

@@ -1,4 +1,5 @@
 -- The state after n steps beside the unbroken trace, and which surfaces are finished by then. Assumes nothing.
+use Rattle.std.specs.Prelude.{if◌then◌else◌}
 use Prim.Native.Nat.{ℕ, zero, suc, ◌+◌, ◌-◌, ◌≤◌, ◌<◌, min, zero-le}
 use mathlib.Core.Path.{◌≡◌, refl, sym, ◌∙◌, ap}
 use mathlib.Core.Logic.{◌≢◌, ◌↔◌}
@@ -9,7 +10,7 @@ use native.Mathlib.Nat.{add-zero}
 use lib.ListN.{length, take}
 use lib.Dec.{leb, leb-zero}
 use borrow.Author.Tests.{le-leb, lt-leb, leb-true, leb-false}
-use Rattle.numbers.specs.Arithmetic.{if◌then◌else◌, 0f}
+use Rattle.numbers.specs.Arithmetic.{0f}
 use Rattle.surfaces.specs.Refusal.{Told, Ended, done}
 use Rattle.surfaces.specs.Surface.{surface_end, limit_of}
 use Rattle.surfaces.proofs.Chains.{chain_ends}

@@ -1,4 +1,5 @@
 -- The ways out of start and continue, each at what its promise says. Assumes nothing.
+use Rattle.std.specs.Prelude.{if◌then◌else◌}
 use Prim.Native.Nat.{ℕ, ◌+◌, ◌*◌, ◌≤◌, ◌<◌, zero-le}
 use mathlib.Core.Path.{◌≡◌, refl, sym, ◌∙◌, ap}
 use mathlib.Core.Logic.{◌≢◌}
@@ -10,7 +11,7 @@ use lib.Dec.{eqb, ltb}
 use lib.Ieee.{Float}
 use lib.Ieee.Scale.{finite}
 use borrow.Author.Tests.{eq-eqb, ne_eqb, lt-ltb, le-ltb, eqb-true, eqb-false, ltb-false}
-use Rattle.numbers.specs.Arithmetic.{◌≤₆₄◌, if◌then◌else◌, 0f, decimal}
+use Rattle.numbers.specs.Arithmetic.{◌≤₆₄◌, 0f, decimal}
 use Rattle.surfaces.specs.Types.{ray_finite}
 use Rattle.surfaces.specs.declared.types.Ray.{Ray}
 use Rattle.numbers.proofs.Choice.{both}

@@ -1,4 +1,5 @@
 -- Which states do not fit a recipe: the test says no exactly if one of SCOPE C5's conditions holds. Assumes nothing.
+use Rattle.std.specs.Prelude.{if◌then◌else◌}
 use Prim.Native.Nat.{ℕ, zero, suc, ◌+◌, ◌≤◌, ◌<◌}
 use mathlib.Core.Path.{◌≡◌, refl, sym, ◌∙◌, subst}
 use mathlib.Core.Logic.{◌≢◌, ⊎_elim}
@@ -9,7 +10,7 @@ use lib.ListN.{length}
 use lib.Dec.{eqb, ltb, leb}
 use lib.Ieee.Scale.{finite}
 use borrow.Author.Tests.{eqb-true, eqb-false, ltb-true, ltb-false, leb-true, leb-false, not-false}
-use Rattle.numbers.specs.Arithmetic.{◌≤₆₄◌, if◌then◌else◌, 0f}
+use Rattle.numbers.specs.Arithmetic.{◌≤₆₄◌, 0f}
 use Rattle.surfaces.specs.Refusal.{stops}
 use Rattle.numbers.specs.Arithmetic.{one_of}
 use Rattle.surfaces.specs.Surface.{limit_of}

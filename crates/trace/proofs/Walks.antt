@@ -1,5 +1,6 @@
 -- A walk over surfaces with the passes inside: what it relies on, and that it goes as far as it is allowed to. Assumes
 -- nothing.
+use Rattle.std.specs.Prelude.{if◌then◌else◌}
 use Prim.Native.Nat.{ℕ, zero, suc, ◌+◌, ◌-◌, ◌*◌, ◌≤◌, ◌<◌, zero-le}
 use mathlib.Core.Path.{◌≡◌, refl, sym, ◌∙◌, ap, subst}
 use mathlib.Core.List.{List}
@@ -8,7 +9,6 @@ use native.Mathlib.Omega.{arith}
 use native.Mathlib.Numerals.{add-one}
 use lib.ListN.{length}
 use lib.Ieee.{Float}
-use Rattle.numbers.specs.Arithmetic.{if◌then◌else◌}
 use Rattle.surfaces.specs.Refusal.{Told, Ended, ended, again}
 use Rattle.surfaces.specs.Newton.{going}
 use Rattle.surfaces.specs.Surface.{pass_answer, chain_by, chain}

@@ -2,8 +2,8 @@
 -- state that the last returned. However the step allowances are chosen, what stands after every call is told here by
 -- the surfaces' own ends, without the step: the records and the trace's end by the unbroken trace, and so the state,
 -- but for the t within a surface, which is that of the chain of its passes. Definitions only.
-use Rattle.std.specs.Prelude.{ℕ, suc, ◌+◌, ◌-◌, ◌≤◌, ◌<◌, min, ◌≡◌, ◌≢◌, ◌↔◌, true, false, List, [], ◌∷◌, length, take, leb, Float}
-use Rattle.numbers.specs.Arithmetic.{if◌then◌else◌, 0f}
+use Rattle.std.specs.Prelude.{ℕ, suc, ◌+◌, ◌-◌, ◌≤◌, ◌<◌, min, ◌≡◌, ◌≢◌, ◌↔◌, true, false, List, [], ◌∷◌, length, take, leb, Float, if◌then◌else◌}
+use Rattle.numbers.specs.Arithmetic.{0f}
 use Rattle.surfaces.specs.Refusal.{done}
 use Rattle.surfaces.specs.Surface.{surface_end, limit_of, chain}
 use Rattle.surfaces.specs.declared.types.Ray.{Ray}

@@ -1,6 +1,5 @@
 -- What a start answers to a program's file, and what it says of the bytes behind its ray. Definitions only.
-use Rattle.std.specs.Prelude.{ℕ, ◌+◌, ◌≡◌, ◌≢◌, not, List, drop, eqb, Float}
-use Rattle.numbers.specs.Arithmetic.{if◌then◌else◌}
+use Rattle.std.specs.Prelude.{ℕ, ◌+◌, ◌≡◌, ◌≢◌, not, List, drop, eqb, Float, if◌then◌else◌}
 use Rattle.recipe.specs.Scan.{Item, refused, items}
 use Rattle.recipe.specs.Source.{source_of, source_bytes}
 use Rattle.trace.specs.Run.{Reply, recipe_of, blank, refused_reply, start_at, start_of}

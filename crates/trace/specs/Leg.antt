@@ -1,10 +1,10 @@
 -- A beam's way to a surface and on from it: what a step that ends a surface does, and the record that it leaves.
 -- Definitions only.
-use Rattle.std.specs.Prelude.{ℕ, List, [], ◌∷◌, Bool, false, ◌&&◌, eqb, pos, Float}
+use Rattle.std.specs.Prelude.{ℕ, List, [], ◌∷◌, Bool, false, ◌&&◌, eqb, pos, Float, if◌then◌else◌}
 use Rattle.std.specs.Float.{binary64}
 use Rattle.std.specs.Float.Ieee.{of_int}
 use Rattle.std.specs.Float.Ieee.Scale.{finite}
-use Rattle.numbers.specs.Arithmetic.{◌+₆₄◌, ◌*₆₄◌, if◌then◌else◌, 0f, 1f}
+use Rattle.numbers.specs.Arithmetic.{◌+₆₄◌, ◌*₆₄◌, 0f, 1f}
 use Rattle.surfaces.specs.Types.{zeros, vector_length, all_finite}
 use Rattle.surfaces.specs.Refusal.{Told, gives, done, after, checked9}
 use Rattle.surfaces.specs.Surface.{turn_answer}

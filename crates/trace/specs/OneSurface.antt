@@ -1,7 +1,7 @@
 -- The answer for one surface beside the full trace, and beside that of the recipe cut after its record. Definitions
 -- only.
-use Rattle.std.specs.Prelude.{ℕ, suc, ◌*◌, ◌≤◌, ◌<◌, ◌≡◌, List, length, take, drop, replicate, ltb, Float}
-use Rattle.numbers.specs.Arithmetic.{if◌then◌else◌, 0f}
+use Rattle.std.specs.Prelude.{ℕ, suc, ◌*◌, ◌≤◌, ◌<◌, ◌≡◌, List, length, take, drop, replicate, ltb, Float, if◌then◌else◌}
+use Rattle.numbers.specs.Arithmetic.{0f}
 use Rattle.surfaces.specs.declared.types.Ray.{Ray}
 use Rattle.recipe.specs.Scan.{Scan, refused, items, item_at}
 use Rattle.trace.specs.Leg.{width}

@@ -1,7 +1,7 @@
 -- What start and continue answer, and what they leave in the result buffer, on every input. Definitions only.
-use Rattle.std.specs.Prelude.{ℕ, ◌+◌, ◌*◌, List, map, true, not, ◌&&◌, length, replicate, eqb, ltb, Float}
+use Rattle.std.specs.Prelude.{ℕ, ◌+◌, ◌*◌, List, map, true, not, ◌&&◌, length, replicate, eqb, ltb, Float, if◌then◌else◌}
 use Rattle.std.specs.Float.Ieee.Scale.{finite}
-use Rattle.numbers.specs.Arithmetic.{◌≤₆₄◌, if◌then◌else◌, 0f}
+use Rattle.numbers.specs.Arithmetic.{◌≤₆₄◌, 0f}
 use Rattle.surfaces.specs.Types.{no_ray, ray_finite}
 use Rattle.surfaces.specs.declared.types.Ray.{Ray}
 use Rattle.recipe.specs.declared.record.Optic.{Optic}

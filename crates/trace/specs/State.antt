@@ -1,8 +1,8 @@
 -- A step, the steps that a call takes, and which states fit a recipe. Definitions only.
-use Rattle.std.specs.Prelude.{ℕ, zero, suc, ◌+◌, ◌*◌, List, Bool, not, ◌&&◌, ◌||◌, length, eqb, ltb, leb, Float}
+use Rattle.std.specs.Prelude.{ℕ, zero, suc, ◌+◌, ◌*◌, List, Bool, not, ◌&&◌, ◌||◌, length, eqb, ltb, leb, Float, if◌then◌else◌}
 use Rattle.std.proofs.lemmas.List.Edits.{sets}
 use Rattle.std.specs.Float.Ieee.Scale.{finite}
-use Rattle.numbers.specs.Arithmetic.{◌≤₆₄◌, if◌then◌else◌, 0f}
+use Rattle.numbers.specs.Arithmetic.{◌≤₆₄◌, 0f}
 use Rattle.surfaces.specs.Types.{ray_finite}
 use Rattle.surfaces.specs.Refusal.{Told, done}
 use Rattle.surfaces.specs.Newton.{going}

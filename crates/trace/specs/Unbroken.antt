@@ -1,8 +1,8 @@
 -- The unbroken trace: each surface in turn by its own rule to its end, with no state and no allowance. That it is not
 -- defined through the continuation is seen in the imports: of this crate the beam and `Leg` alone, which know no state
 -- and no step. Definitions only.
-use Rattle.std.specs.Prelude.{ℕ, suc, ◌+◌, ◌-◌, List, [], ◌∷◌, ◌++◌, length, replicate, leb, Float}
-use Rattle.numbers.specs.Arithmetic.{if◌then◌else◌, 0f}
+use Rattle.std.specs.Prelude.{ℕ, suc, ◌+◌, ◌-◌, List, [], ◌∷◌, ◌++◌, length, replicate, leb, Float, if◌then◌else◌}
+use Rattle.numbers.specs.Arithmetic.{0f}
 use Rattle.surfaces.specs.Refusal.{done}
 use Rattle.surfaces.specs.Surface.{surface_end}
 use Rattle.recipe.specs.declared.record.Optic.{Optic}

@@ -1,6 +1,6 @@
 -- What a question for one surface's record answers, on every input. Definitions only.
-use Rattle.std.specs.Prelude.{ℕ, suc, List, map, false, length, get_or, replicate, eqb, leb, Float}
-use Rattle.numbers.specs.Arithmetic.{if◌then◌else◌, 0f}
+use Rattle.std.specs.Prelude.{ℕ, suc, List, map, false, length, get_or, replicate, eqb, leb, Float, if◌then◌else◌}
+use Rattle.numbers.specs.Arithmetic.{0f}
 use Rattle.surfaces.specs.declared.types.Ray.{Ray}
 use Rattle.recipe.specs.Scan.{Scan, refused, items, scan}
 use Rattle.trace.specs.declared.wanted.Reached.{Reached}

@@ -1,6 +1,6 @@
 // A beam's way to a surface and on from it, and the record that it leaves.
-ghost use Rattle.std.specs.Prelude.{◌≡◌};
-ghost use Rattle.numbers.specs.Arithmetic.{if◌then◌else◌, 0f, 1f};
+ghost use Rattle.std.specs.Prelude.{◌≡◌, if◌then◌else◌};
+ghost use Rattle.numbers.specs.Arithmetic.{0f, 1f};
 ghost use Rattle.surfaces.specs.Refusal.{gives, checked9, told_crossing};
 ghost use Rattle.trace.specs.Leg.{no_leg, boundary_of, share, leg_finite, leg_of, beam_after, hit_row, refusal_row};
 ghost use Rattle.trace.specs.Leg.{row_of};

@@ -1,6 +1,5 @@
 // A trace's state: where the beam is, and which states fit a recipe.
-ghost use Rattle.std.specs.Prelude.{◌≡◌, ◌+◌, ◌<◌, ◌^◌, eqb};
-ghost use Rattle.numbers.specs.Arithmetic.{if◌then◌else◌};
+ghost use Rattle.std.specs.Prelude.{◌≡◌, ◌+◌, ◌<◌, ◌^◌, eqb, if◌then◌else◌};
 ghost use Rattle.trace.specs.State.{paused_at, state_after, outcome_known, place_fits, passes_fit, beam_good, fits_of};
 ghost use Rattle.trace.specs.Parts.{told_ending};
 

@@ -1,9 +1,9 @@
 -- The records of an unbroken trace: what each holds, how many there are, and their lines. Assumes nothing.
-use Rattle.std.proofs.Common.{◌≡◌, ℕ, suc, ◌+◌, ◌^◌, ◌≤◌, Bool, true, false, ◌&&◌, ◌||◌, eqb, leb, ◌≢◌, List, [], ◌∷◌, ◌++◌, length, refl, ap, ◌∙◌, append_assoc, zero-le, arith, le→leb, take_at, drop_at, ne_eqb, eqb-true, leb-true}
+use Rattle.std.proofs.Common.{◌≡◌, ℕ, suc, ◌+◌, ◌^◌, ◌≤◌, Bool, true, false, ◌&&◌, ◌||◌, eqb, leb, ◌≢◌, List, [], ◌∷◌, ◌++◌, length, refl, ap, ◌∙◌, append_assoc, zero-le, arith, le→leb, take_at, drop_at, ne_eqb, eqb-true, leb-true, if◌then◌else◌}
 use lib.Ieee.{Float, binary64, round, to_unsigned, in_float}
 use lib.Ieee.Back.{unsigned_back}
 use borrow.Author.Tests.{eqb-false}
-use Rattle.numbers.specs.Arithmetic.{if◌then◌else◌, decimal, 0f}
+use Rattle.numbers.specs.Arithmetic.{decimal, 0f}
 use Rattle.numbers.proofs.Choice.{by_test}
 use Rattle.surfaces.specs.Refusal.{Ended, done, stops}
 use Rattle.surfaces.specs.Surface.{surface_end}

@@ -1,7 +1,6 @@
 -- How long the lines are at most. Assumes nothing.
-use Rattle.std.proofs.Common.{◌≡◌, ℕ, zero, suc, ◌+◌, ◌*◌, ◌/◌, ◌%◌, ◌≤◌, Bool, true, false, ltb, List, [], ◌∷◌, ◌++◌, map, length, take, drop, refl, zero-le, arith, length-append, length-drop, length-take, length-take-le}
+use Rattle.std.proofs.Common.{◌≡◌, ℕ, zero, suc, ◌+◌, ◌*◌, ◌/◌, ◌%◌, ◌≤◌, Bool, true, false, ltb, List, [], ◌∷◌, ◌++◌, map, length, take, drop, refl, zero-le, arith, length-append, length-drop, length-take, length-take-le, if◌then◌else◌}
 use lib.Ieee.{Float, binary64, to_bits}
-use Rattle.numbers.specs.Arithmetic.{if◌then◌else◌}
 use Rattle.lines.specs.Output.{glyph, hex_text, decimal_text}
 use Rattle.trace.specs.declared.state.State.{State}
 use Rattle.trace.specs.Leg.{width}

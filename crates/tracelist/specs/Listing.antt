@@ -1,11 +1,11 @@
 -- What `tracelist` prints of a file: a line for each record of the unbroken trace and then its end, or one line for a
 -- refused start. Definitions only.
-use Rattle.std.specs.Prelude.{ℕ, suc, ◌*◌, List, [], ◌∷◌, ◌++◌, map, length, take, drop, replicate, ◌==◌, slice_index_or, to_bits, Float}
+use Rattle.std.specs.Prelude.{ℕ, suc, ◌*◌, List, [], ◌∷◌, ◌++◌, map, length, take, drop, replicate, ◌==◌, slice_index_or, to_bits, Float, if◌then◌else◌}
 use Prim.Native.Char.{code}
 use Prim.Native.String.{String, [] as no_text, ◌∷◌ as ◌then◌}
 use Rattle.std.specs.Float.{nan, binary64}
 use Rattle.std.specs.Float.Ieee.{to_unsigned}
-use Rattle.numbers.specs.Arithmetic.{if◌then◌else◌, 0f}
+use Rattle.numbers.specs.Arithmetic.{0f}
 use Rattle.lines.specs.Output.{hex_text, decimal_text}
 use Rattle.recipe.specs.Source.{source_of}
 use Rattle.trace.specs.Leg.{width}

@@ -1,7 +1,6 @@
 -- What the parts of the code that put a listing together say to each other. Definitions only.
-use Rattle.std.specs.Prelude.{ℕ, zero, suc, ◌+◌, ◌*◌, List, [], ◌++◌, length, take, drop, ◌==◌, Float}
+use Rattle.std.specs.Prelude.{ℕ, zero, suc, ◌+◌, ◌*◌, List, [], ◌++◌, length, take, drop, ◌==◌, Float, if◌then◌else◌}
 use Rattle.std.proofs.lemmas.List.Edits.{sets}
-use Rattle.numbers.specs.Arithmetic.{if◌then◌else◌}
 use Rattle.trace.specs.Leg.{width}
 use Rattle.trace.specs.declared.state.State.{State}
 use Rattle.tracelist.specs.Listing.{record_line, end_line}

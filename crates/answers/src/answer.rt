@@ -74,13 +74,11 @@ impl Printed {
         let count = a.count;
         let values = a.values;
         let mut answer = self;
-        let mut i = 0usize;
-        while i < MOST_COEFFICIENTS {
+        for i in 0..MOST_COEFFICIENTS {
             if count <= i {
                 return answer;
             }
             answer = answer.with(values[i]);
-            i += 1;
         }
         answer
     }

@@ -56,13 +56,11 @@ fn coefficients(v: &Values, at: usize, count: usize) -> Coefficients
     requires { at + count ≤ 64 }
 {
     let mut values = [0.0; MOST_COEFFICIENTS];
-    let mut i = 0usize;
-    while i < MOST_COEFFICIENTS {
+    for i in 0..MOST_COEFFICIENTS {
         if count <= i {
             return Coefficients { count, values };
         }
         values[i] = v[at + i];
-        i += 1;
     }
     Coefficients { count, values }
 }

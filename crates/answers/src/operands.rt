@@ -47,22 +47,16 @@ fn read_numbers(line: &[u8], at: usize, held: usize, values: &mut Values) -> Num
     requires { held ≤ 64 }
     ensures { (held ≤ result.count) × (result.count ≤ 64) }
 {
-    let mut count = held;
     let mut end = at;
-    while count < 64 {
+    for count in held..64 {
         let word = next_word(line, end);
         match read_float(part(line, word.start, word.end)) {
-            ReadFloat::Given(x) => {
-                values[count] = x;
-            }
-            ReadFloat::Unreadable => {
-                return Numbers { count, end };
-            }
+            ReadFloat::Given(x) => values[count] = x,
+            ReadFloat::Unreadable => return Numbers { count, end },
         }
-        count += 1;
         end = word.end;
     }
-    Numbers { count, end }
+    Numbers { count: 64, end }
 }
 
 // The n of `#n`.

@@ -21,15 +21,13 @@ fn no_entry() -> Entry {
 
 pub(crate) fn look_up(name: &[u8], table: &[u8]) -> Entry {
     let mut at = 0usize;
-    let mut row = 0u64;
-    while row < MOST_ROWS {
+    for row in 0..MOST_ROWS {
         let word = next_word(table, at);
         let count = next_word(table, word.end);
         if part(table, word.start, word.end) == name {
             return entry_of(row, read_count(part(table, count.start, count.end), 64));
         }
         at = count.end;
-        row += 1;
     }
     no_entry()
 }

@@ -1,5 +1,6 @@
 -- A count that was read keeps to its bound. Assumes nothing.
-use Rattle.std.proofs.Common.{◌≡◌, ℕ, ◌+◌, ◌*◌, ◌≤◌, Bool, true, false, List, [], ◌∷◌, length, eqb, leb, ltb, if◌then◌else◌, refl, arith, ltb-false}
+use Rattle.std.proofs.Common.{◌≡◌, ℕ, ◌+◌, ◌*◌, ◌≤◌, Bool, true, false, List, [], ◌∷◌, length, eqb, leb, ltb}
+use Rattle.std.proofs.Common.{if◌then◌else◌, refl, arith, ltb-false}
 use Rattle.lines.specs.Digits.{digit_value, spelled, read_count}
 use Rattle.lines.specs.declared.digits.ReadCount.{ReadCount}
 use Rattle.lines.specs.declared.digits.ReadCount.TheVariants.{Given, Unreadable}

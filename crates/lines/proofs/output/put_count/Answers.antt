@@ -4,4 +4,5 @@ use Rattle.lines.proofs.Decimal.{decimal_is}
 use Rattle.lines.proofs.output.put_count.Goals as goal
 
 pub returns : goal.returns
-returns c = c.put_word.ensures ∙ rw (c.decimal-k.ensures.digits, ← decimal_is _ _ (search rules) c.decimal-k.ensures.len)
+returns c =
+    let text = c.decimal-k.ensures in c.put_word.ensures ∙ rw (text.digits, ← decimal_is _ _ (search rules) text.len)

@@ -5,4 +5,5 @@ use Rattle.lines.proofs.output.put_floats.Given as goal
 
 abbrev pub invariant-loop-i : goal.invariant-loop-i
 invariant-loop-i l =
-    (length l.out ≡ length l.fn.out) × (put_floats (l.end, l.out) (drop l.i l.values) ≡ put_floats (l.at, l.fn.out) l.values)
+    (length l.out ≡ length l.fn.out) ×
+    (put_floats (l.end, l.out) (drop l.i l.values) ≡ put_floats (l.at, l.fn.out) l.values)

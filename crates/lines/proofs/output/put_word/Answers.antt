@@ -1,5 +1,6 @@
 -- The bytes that were copied, and the space behind them, are what `put` puts.
-use Rattle.std.proofs.Common.{◌≡◌, ℕ, ◌+◌, ◌<◌, List, ◌++◌, length, take, get_or, set, arith, add-one, drop-cons, lt-ltb, length-append, length-set, length-take-le}
+use Rattle.std.proofs.Common.{◌≡◌, ℕ, ◌+◌, ◌<◌, List, ◌++◌, length, take, get_or, set, arith, add-one, drop-cons}
+use Rattle.std.proofs.Common.{lt-ltb, length-append, length-set, length-take-le}
 use Rattle.std.proofs.Math.Seq.{paste, paste-suc, take-length, set_at}
 use Rattle.lines.specs.Output.{put}
 use Rattle.lines.proofs.output.put_word.Goals as goal

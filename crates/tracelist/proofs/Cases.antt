@@ -7,8 +7,8 @@ use Rattle.recipe.specs.Endian.{number_at, numbers_at, u16_at, u32_at, u64_at}
 use Rattle.recipe.specs.Record.{coefficients_at, even_count, formed_at, kind_of, length_fits, negative_semi, odd_count, optic_at, record_at, semi_slot, shaped_at, slot_at}
 use Rattle.recipe.specs.Scan.{scan}
 use Rattle.recipe.specs.Source.{is_source, source_of, vector_at}
-use Rattle.std.specs.Float.Ieee.{add, div, eq, le, lt, mul, neg, of_bits, of_int, round, sub, to_bits, to_unsigned}
-use Rattle.std.specs.Prelude.{is_nan, refl, true, ◌≡◌}
+use Rattle.std.specs.Float.Ieee.{is_nan, add, div, eq, le, lt, mul, neg, of_bits, of_int, round, sub, to_bits, to_unsigned}
+use Rattle.std.specs.Prelude.{refl, true, ◌≡◌}
 use Rattle.surfaces.specs.Asphere.{base_sag, base_slope, even_facing, even_normal, even_sag, even_slope, even_slopes, facing_of, length_of, power_sum_from, radial_slopes, slope_sum_from}
 use Rattle.surfaces.specs.Conic.{conic_crossing, conic_normal, gradient_normal, landed_within, normal_at, plane_crossing}
 use Rattle.surfaces.specs.Edges.{agree}

@@ -1,32 +1,9 @@
 -- Files, and what is printed of them, the example of SCOPE L4 first: one list, one theorem. Assumes nothing.
-use Rattle.std.specs.Prelude.{◌≡◌, ℕ, ◌+◌, ◌*◌, true, List, [], ◌∷◌, ◌++◌, length, is_nan, refl}
+use Rattle.std.specs.Prelude.{ℕ, ◌+◌, ◌*◌, List, [], ◌∷◌, ◌++◌, length}
 use Prim.Native.String.{String, [] as no_text, ◌∷◌ as ◌then◌}
-use Rattle.std.specs.Float.Ieee.{of_bits, to_bits, of_int, to_unsigned, neg, round, add, sub, mul, div, lt, le, eq}
-use Rattle.numbers.specs.Arithmetic.{decimal}
-use Rattle.numbers.specs.Basic.{magnitude, negative, larger, clamped, infinite}
-use Rattle.numbers.specs.Root.{root}
-use Rattle.surfaces.specs.Types.{dot_of, vector_length, over_of, distance, point_at, all_finite, ray_finite, every_finite}
-use Rattle.surfaces.specs.Snell.{turned_if, negated_if, bent, refracted}
-use Rattle.surfaces.specs.Conic.{landed_within, plane_crossing, conic_crossing, conic_normal, gradient_normal, normal_at}
-use Rattle.surfaces.specs.Newton.{arrived_at, moved_by, pass_at, vertex_plane, passes_from, newton_end}
-use Rattle.surfaces.specs.Sags.{edge_root}
-use Rattle.surfaces.specs.Asphere.{power_sum_from, slope_sum_from, base_sag, base_slope, even_sag, even_slope, radial_slopes}
-use Rattle.surfaces.specs.Asphere.{even_slopes, length_of, facing_of, even_facing, even_normal}
-use Rattle.surfaces.specs.Edges.{Case, ◌⇒◌, agree}
-use Rattle.surfaces.specs.Surface.{surface_end, surface_normal, onward_from, turn_answer}
-use Rattle.recipe.specs.Endian.{u16_at, u32_at, u64_at, number_at, numbers_at}
-use Rattle.recipe.specs.Record.{slot_at, length_fits, formed_at, shaped_at, semi_slot, kind_of, odd_count, even_count}
-use Rattle.recipe.specs.Record.{coefficients_at, optic_at, negative_semi, record_at}
-use Rattle.recipe.specs.Scan.{scan}
-use Rattle.recipe.specs.Source.{is_source, vector_at, source_of}
-use Rattle.lines.specs.Output.{glyph, hex_text, decimal_text}
-use Rattle.trace.specs.Leg.{boundary_of, share, leg_finite, leg_of, beam_after, hit_row, refusal_row, row_of}
-use Rattle.trace.specs.Unbroken.{unbroken, total}
-use Rattle.trace.specs.Run.{refused_answer, ray_admission, admission, start_at}
-use Rattle.trace.specs.Demand3.{trace_of}
-use Rattle.trace.specs.File.{start_file_of}
+use Rattle.surfaces.specs.Edges.{Case, ◌⇒◌}
 use Rattle.trace.specs.Example.{bytes, patterns, beam_record, plane_record}
-use Rattle.tracelist.specs.Listing.{ascii, line, record_line, record_lines, end_line, refused_line, trace_lines}
+use Rattle.tracelist.specs.Listing.{ascii}
 use Rattle.tracelist.specs.Listing.{listing}
 
 -- a record by its kind and its numbers' patterns

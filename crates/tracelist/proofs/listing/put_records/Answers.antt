@@ -7,15 +7,12 @@ use Rattle.tracelist.specs.Listing.{record_line}
 use Rattle.tracelist.specs.Parts.{written, record_bytes, row_lines}
 use Rattle.tracelist.proofs.Buffers.{both_written}
 use Rattle.tracelist.proofs.Widths.{record_short}
-use Rattle.tracelist.proofs.listing.put_records.Statement.{statement}
-use Rattle.tracelist.proofs.listing.put_records.Tie as tie
+use Rattle.tracelist.proofs.listing.put_records.Invariants.{left}
+use Rattle.tracelist.proofs.listing.put_records.Goals as goal
 
--- record i, and the lines from it on
+-- record i
 abbrev row : List Float → ℕ → List Float
 row results i = take (i * width + width - i * width) (drop (i * width) results)
-
-abbrev left : List Float → ℕ → ℕ → List ℕ
-left results count i = row_lines i (count - i) (drop (i * width) results)
 
 row_width : (results : List Float) (count i : ℕ) → i < count → width * count ≤ length results
     → length (row results i) ≡ width
@@ -46,42 +43,28 @@ module _ (results : List Float) (count i : ℕ) (out : List ℕ) (end : ℕ) whe
   unfolding written row_lines
   all_put h = let e : count - i ≡ 0 = omega arith in rw (e, add-zero end)
 
-abbrev invariant-loop : tie.invariant-loop
-invariant-loop out₀ results count end₀ i₀ out end i =
-    (i ≤ count) × (end ≤ record_bytes * i) × (length out ≡ length out₀)
-    × (written out end (left results count i) ≡ written out₀ 0 (row_lines 0 count results))
+pub loop-i-init : goal.loop-i-init
+loop-i-init c = (search rules, search rules, refl, rw sub-zero)
 
-abbrev decreases-loop : tie.decreases-loop
-decreases-loop out₀ results count end₀ i₀ out end i = count - i
-
-pub put_records_spec : {M : Type 1} → statement M
-put_records_spec =
-    tie.close
-    (tie.spec invariant-loop decreases-loop
-    (λ c. (search rules, search rules, refl, rw sub-zero))
-    (λ c. search rules)
-    (λ c. search rules)
-    (λ c. search rules)
-    (λ c. search rules)
-    (λ c. search rules)
-    (λ c. search rules)
-    (λ c κs.
-    let turn = c.before.before in
-    let start = turn.before.before.before.before in
+pub put_record-end-requires : goal.put_record-end-requires
+put_record-end-requires c =
+    let turn = c in
+    let start = turn in
     let x = start.args in
-    let i = turn.before.loop.i in
-    (row_width x.results.now x.count i turn.loop-test.true start.requires.0, search rules))
-    (λ c. search rules)
-    (λ c. search rules)
-    (λ c.
-    let called = c.before.before in
-    let turn = called.before.before.before in
-    let at = turn.before.loop in
-    let start = turn.before.before.before.before in (
+    let i = turn.loop-i.i in
+    (row_width x.results.now x.count i turn.loop-i-test.true start.requires.0, search rules)
+
+pub loop-i-preserved : goal.loop-i-preserved
+loop-i-preserved c =
+    let called = c in
+    let turn = called in
+    let at = turn.loop-i in
+    let start = turn in (
       search rules,
-      within _ _ at.i _ _ turn.loop-test.true start.requires.0 _ called.put_record.ensures at.invariant.1,
+      within _ _ at.i _ _ turn.loop-i-test.true start.requires.0 _ called.put_record-end.ensures at.invariant.1,
       search rules,
-      one_more _ _ at.i _ _ turn.loop-test.true _ called.put_record.ensures ∙ at.invariant.3,
-    ))
-    (λ c. search rules)
-    (λ c. let at = c.before in all_put _ _ at.loop.i _ _ (search rules) ∙ at.loop.invariant.3))
+      one_more _ _ at.i _ _ turn.loop-i-test.true _ called.put_record-end.ensures ∙ at.invariant.3,
+    )
+
+pub returns : goal.returns
+returns c = let at = c in all_put _ _ at.loop-i.i _ _ (search rules) ∙ at.loop-i.invariant.3

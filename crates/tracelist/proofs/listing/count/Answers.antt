@@ -3,8 +3,7 @@ use Rattle.std.proofs.Common.{◌≡◌, ◌+◌, ◌-◌, ◌*◌, ◌/◌, ◌
 use mathlib.Core.Bool.{false≢true}
 use lib.Ieee.{Float, nan, inf, fin, up, down, of_bits, neg, lt, to_unsigned}
 use lib.Ieee.Fits.{down_pos}
-use Rattle.tracelist.proofs.listing.count.Statement.{statement}
-use Rattle.tracelist.proofs.listing.count.Tie as tie
+use Rattle.tracelist.proofs.listing.count.Goals as goal
 
 below : (x : Float) → lt (fin true 1 (pos 0)) x ≡ false → 0 ≡ to_unsigned 64 x
 unfolding lt to_unsigned
@@ -30,12 +29,18 @@ above (fin false m e) l h =
     let q : 2 ^ 64 ≤ m * up e / down e = (le-div_iff_mul-le (down_pos e)).1 (omega arith) in
     omega arith
 
-pub count_spec : {M : Type 1} → statement M
+pub truncating_f64_to_u64-requires : goal.truncating_f64_to_u64-requires
 unfolding of_bits neg
-count_spec =
-    tie.close
-    (tie.spec
-    (λ c κs. (subst T (sym c.before.if1.true) tt, subst T (sym c.if2.true) tt))
-    (λ c. search rules)
-    (λ c. above c.before.before.args.x c.before.if1.true c.if2.false)
-    (λ c. below c.before.args.x c.if1.false))
+truncating_f64_to_u64-requires c = record { lower_bound = subst T (sym c.if-x.true) tt; upper_bound = subst T (sym c.if-x-2.true) tt }
+
+pub returns-then-x-2 : goal.returns-then-x-2
+unfolding of_bits neg
+returns-then-x-2 c = search rules
+
+pub returns-then-x : goal.returns-then-x
+unfolding of_bits neg
+returns-then-x c = above c.args.x c.if-x.true c.if-x-2.false
+
+pub returns : goal.returns
+unfolding of_bits neg
+returns c = below c.args.x c.if-x.false

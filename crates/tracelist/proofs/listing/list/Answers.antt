@@ -10,8 +10,7 @@ use Rattle.trace.proofs.Files.{source_long, file}
 use Rattle.tracelist.specs.Listing.{refused_line, room, listing, filled}
 use Rattle.tracelist.specs.Parts.{records_of, state_lines}
 use Rattle.tracelist.proofs.Traces.{start_alike, refused_listing, few_records, traced_listing}
-use Rattle.tracelist.proofs.listing.list.Statement.{statement}
-use Rattle.tracelist.proofs.listing.list.Tie as tie
+use Rattle.tracelist.proofs.listing.list.Goals as goal
 
 module _ (f : List ℕ) (z y : List Float) (a : Answer) (size : length z ≡ length room)
     (first : record { answer = a; buffer = y } ≡ start_file_of f z) where
@@ -44,55 +43,27 @@ module _ (f : List ℕ) (z y : List Float) (a : Answer) (size : length z ≡ len
       traced_list : state_lines r.buffer r.answer.state ≡ listing f
       traced_list = traced_listing f accepted y room-left r whole
 
--- the start, from where its answer is tested
-abbrev started_at : tie.After-struct-known → tie.After-start-file
-started_at c = c.before.before
+pub returns-then-started-ne-ACCEPTED : goal.returns-then-started-ne-ACCEPTED
+returns-then-started-ne-ACCEPTED c =
+    c.put_refused.ensures ∙ ap (filled _) (refused_list _ _ _ _ refl c.start_file-started.ensures c.if-started-ne-ACCEPTED.true)
 
--- the reading of the ray, from where the trace behind it is whole
-abbrev read_at : tie.After-whole → tie.After-read-source
-read_at c = c.before.before.before.before
+pub slice_bounds-whole-count : goal.slice_bounds-whole-count
+slice_bounds-whole-count c =
+    long_file _ _ _ _ refl c.start_file-started.ensures c.if-started-ne-ACCEPTED.false
 
--- the whole trace, from where its state is known
-abbrev traced_at : tie.After-s → tie.After-whole
-traced_at c = c.before.before
+pub slice_bounds-whole-start : goal.slice_bounds-whole-start
+slice_bounds-whole-start c =
+    let h = long_file _ _ _ _ refl c.start_file-started.ensures c.if-started-ne-ACCEPTED.false in
+    search rules
 
-pub list_spec : {M : Type 1} → statement M
-list_spec =
-    tie.close
-    (tie.spec
-    (λ c. search rules)
-    (λ c κs. search rules)
-    (λ c κs. search rules)
-    (λ c.
-    let test = c.before.before in
-    let first = started_at test.before in
-    c.Put-refused.ensures ∙ ap (filled _) (refused_list _ _ _ _ refl first.start-file.ensures test.if1.true))
-    (λ c κs. search rules)
-    (λ c.
-    let test = c.before.before in
-    let first = started_at test.before in
-    long_file _ _ _ _ refl first.start-file.ensures test.if1.false)
-    (λ c.
-    let test = c.before.before in
-    let first = started_at test.before in
-    let h = long_file _ _ _ _ refl first.start-file.ensures test.if1.false in
-    search rules)
-    (λ c. search rules)
-    (λ c. search rules)
-    (λ c κs. search rules)
-    (λ c κs.
-    let all = traced_at c.before.before in
-    let source = read_at all in
-    let test = source.before in
-    let first = started_at test.before in
-    few _ _ _ _ refl first.start-file.ensures test.if1.left (search rules)
-    _ source.read-source.ensures _ all.whole.ensures)
-    (λ c.
-    let all = traced_at c.before.before.before in
-    let source = read_at all in
-    let test = source.before in
-    let first = started_at test.before in
-    c.put-trace.ensures
+pub put_trace-requires : goal.put_trace-requires
+put_trace-requires c =
+    few _ _ _ _ refl c.start_file-started.ensures c.if-started-ne-ACCEPTED.false (search rules)
+    _ c.read_source-source.ensures _ c.whole-traced.ensures
+
+pub returns : goal.returns
+returns c =
+    c.put_trace.ensures
     ∙ ap (filled _)
-    (traced_list _ _ _ _ refl first.start-file.ensures test.if1.left (search rules)
-    _ source.read-source.ensures _ all.whole.ensures)))
+    (traced_list _ _ _ _ refl c.start_file-started.ensures c.if-started-ne-ACCEPTED.false (search rules)
+    _ c.read_source-source.ensures _ c.whole-traced.ensures)

@@ -146,7 +146,8 @@ pub extern "C" fn measured_toroid(
     ky: f64,
     semi: f64,
 ) -> f64
-    ensures { result ≡ sum_landing (toroid_crossing_answer (toroid_of rx cy ky semi) (ray_of ox oy oz dx dy dz) vertex) }
+    ensures { result
+        ≡ sum_landing (toroid_crossing_answer (toroid_of rx cy ky semi) (ray_of ox oy oz dx dy dz) vertex) }
 {
     let s = ToroidalSurface { rx, cy, ky, semi };
     sum_of(s.intersect_ray(ray_of(ox, oy, oz, dx, dy, dz), vertex))

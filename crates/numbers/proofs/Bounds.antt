@@ -1,6 +1,7 @@
 -- Bounds that arithmetic keeps: operands between bounds, all plain, have a result between those of the bounds, since
 -- rounding keeps order. Assumes nothing.
-use Rattle.std.proofs.Common.{◌≡◌, ℕ, zero, suc, ◌+◌, ◌-◌, ◌*◌, ◌<◌, ◌≤◌, Bool, true, false, T, sym, refl, ◌∙◌, le_refl, lt_of_lt_of_le, le_of_lt, mul-le-mul_right, mul_comm, mul-le-mul, mul-pos, arith}
+use Rattle.std.proofs.Common.{◌≡◌, ℕ, zero, suc, ◌+◌, ◌-◌, ◌*◌, ◌<◌, ◌≤◌, Bool, true, false, T, sym, refl, ◌∙◌, le_refl}
+use Rattle.std.proofs.Common.{lt_of_lt_of_le, le_of_lt, mul-le-mul_right, mul_comm, mul-le-mul, mul-pos, arith}
 use native.Mathlib.Nat.{mul-sub}
 use mathlib.Core.Bool.{false≢true}
 use lib.Dec.{eqb-suc-zero}

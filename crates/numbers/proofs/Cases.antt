@@ -8,5 +8,6 @@ use Rattle.std.specs.Float.Ieee.{add, div, eq, is_nan, le, lt, mul, neg, of_bits
 use Rattle.std.specs.Prelude.{refl, ◌≡◌}
 
 pub each_row : rules rows ≡ knowns rows
-unfolding rows decimal root magnitude negative larger clamped infinite neg add sub mul div lt le eq is_nan of_bits to_bits
+unfolding rows decimal root magnitude negative larger clamped infinite neg add sub mul div lt le eq is_nan of_bits
+    to_bits
 each_row = refl

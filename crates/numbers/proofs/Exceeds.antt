@@ -1,5 +1,7 @@
 -- A number below y * y, as that product rounds, has no root above y, and one above it none below y. Assumes nothing.
-use Rattle.std.proofs.Common.{◌≡◌, ℕ, zero, suc, ◌+◌, ◌*◌, ◌^◌, ◌<◌, ◌≤◌, true, false, T, sym, refl, ◌∙◌, le_of_lt, mul-le-mul_right, mul-le-mul, mul-le-mul_left, mul-pos, lt_of_not-le, arith, pow_pos, le-ltb}
+use Rattle.std.proofs.Common.{◌≡◌, ℕ, zero, suc, ◌+◌, ◌*◌, ◌^◌, ◌<◌, ◌≤◌, true, false, T, sym, refl, ◌∙◌, le_of_lt}
+use Rattle.std.proofs.Common.{mul-le-mul_right, mul-le-mul, mul-le-mul_left, mul-pos, lt_of_not-le, arith, pow_pos}
+use Rattle.std.proofs.Common.{le-ltb}
 use mathlib.Core.Bool.{false≢true, not-eq-not}
 use lib.Ieee.{Float, nan, inf, fin, binary64, up, down, fits, round, mul, lt, le}
 use lib.Ieee.Order.{le_of_values, round_mono}

@@ -1,5 +1,6 @@
 -- Lists, at any type of element where it does not matter. Assumes nothing.
-use Rattle.std.proofs.Common.{◌≡◌, ℕ, ◌+◌, ◌<◌, Bool, true, false, ◌&&◌, ◌||◌, eqb, List, [], ◌∷◌, length, get_or, drop, refl, add-one, drop-cons, eqb-true}
+use Rattle.std.proofs.Common.{◌≡◌, ℕ, ◌+◌, ◌<◌, Bool, true, false, ◌&&◌, ◌||◌, eqb, List, [], ◌∷◌, length, get_or, drop}
+use Rattle.std.proofs.Common.{refl, add-one, drop-cons, eqb-true}
 use mathlib.Core.Bool.{false≢true}
 use Rattle.numbers.specs.Arithmetic.{one_of}
 use Rattle.numbers.proofs.Choice.{both}

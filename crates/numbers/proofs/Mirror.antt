@@ -1,6 +1,7 @@
 -- Arithmetic has a mirror image: operands with other signs have results with other signs, and are as far apart.
 -- Assumes nothing.
-use Rattle.std.proofs.Common.{◌≡◌, ℕ, zero, suc, ◌-◌, ◌*◌, ◌^◌, ◌<◌, Bool, true, false, cond, ltb, sym, refl, ap, ◌∙◌, arith}
+use Rattle.std.proofs.Common.{◌≡◌, ℕ, zero, suc, ◌-◌, ◌*◌, ◌^◌, ◌<◌, Bool, true, false, cond, ltb, sym, refl, ap, ◌∙◌}
+use Rattle.std.proofs.Common.{arith}
 use mathlib.Core.Bool.{not-not}
 use lib.Dec.{eqb-suc-zero}
 use lib.Ieee.{Float, nan, inf, fin, binary64, up, down, odd, units, round, neg, sum, sub, mul, div}

@@ -1,7 +1,11 @@
 -- What `root` says, proved: `floor_is` of `Roots.antt`, and here that `units` is exact (`units_exact`), that no
 -- binary64 lies nearer to √x than `root x` (`none_nearer`), that no tie arises (`no_tie`), that only one value is
 -- nearest (`only_one`) and how near to x the square of `root x` is (`root_squared`). Assumes nothing.
-use Rattle.std.proofs.Common.{◌≡◌, ℕ, zero, suc, ◌+◌, ◌-◌, ◌*◌, ◌/◌, ◌%◌, ◌^◌, ◌<◌, ◌≤◌, true, false, ◌&&◌, eqb, ltb, leb, ◌⊎◌, ℤ, pos, negsuc, sym, refl, ap, ◌∙◌, subst, inl, inr, ⊎_elim, lt_of_lt_of_le, le_of_lt, mul-le-mul_right, mul-le-mul, add_comm, mul-lt-mul_of_pos_right, mul-pos, lt_of_not-le, zero-mul, mul-one, ne_of_lt, not-le_of_lt, arith, ltb→lt, leb→le, pow_pos, pow_mono, pow-add}
+use Rattle.std.proofs.Common.{◌≡◌, ℕ, zero, suc, ◌+◌, ◌-◌, ◌*◌, ◌/◌, ◌%◌, ◌^◌, ◌<◌, ◌≤◌, true, false, ◌&&◌, eqb, ltb}
+use Rattle.std.proofs.Common.{leb, ◌⊎◌, ℤ, pos, negsuc, sym, refl, ap, ◌∙◌, subst, inl, inr, ⊎_elim, lt_of_lt_of_le}
+use Rattle.std.proofs.Common.{le_of_lt, mul-le-mul_right, mul-le-mul, add_comm, mul-lt-mul_of_pos_right, mul-pos}
+use Rattle.std.proofs.Common.{lt_of_not-le, zero-mul, mul-one, ne_of_lt, not-le_of_lt, arith, ltb→lt, leb→le, pow_pos}
+use Rattle.std.proofs.Common.{pow_mono, pow-add}
 use native.Mathlib.Decide.{dec_le}
 use lib.Pow.{pow-lt}
 use lib.Ieee.{Float, nan, inf, fin, binary64, up, down, size, fits, odd, of_bits, to_bits}

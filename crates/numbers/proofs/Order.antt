@@ -1,5 +1,6 @@
 -- Numbers without a minus sign, infinity among them: of two that differ, one is below the other. Assumes nothing.
-use Rattle.std.proofs.Common.{◌≡◌, ℕ, ◌+◌, ◌-◌, ◌*◌, ◌/◌, ◌^◌, true, false, T, sym, refl, ap, ◌∙◌, true≢false, le_refl, le_of_lt, le_antisymm, arith}
+use Rattle.std.proofs.Common.{◌≡◌, ℕ, ◌+◌, ◌-◌, ◌*◌, ◌/◌, ◌^◌, true, false, T, sym, refl, ap, ◌∙◌, true≢false, le_refl}
+use Rattle.std.proofs.Common.{le_of_lt, le_antisymm, arith}
 use mathlib.Core.Bool.{false≢true}
 use lib.Ieee.{Float, nan, inf, fin, binary64, size, fits, of_bits, to_bits, lt, is_nan}
 use lib.Ieee.Positive.{num, den, den_pos}
@@ -28,7 +29,8 @@ one_way (finite p) (finite q) h = not_below q p (le_of_lt (below p q h))
 scaled : (a b c d p : ℕ) → a * d ≡ b * c → a * p * d ≡ b * p * c
 scaled a b c d p h = omega (arith, ap (λ (k : ℕ). k * p) h)
 
-same_pattern : {x y : Float} → Plain x → Plain y → num x * den y ≡ num y * den x → to_bits binary64 x ≡ to_bits binary64 y
+same_pattern : {x y : Float} → Plain x → Plain y → num x * den y ≡ num y * den x →
+    to_bits binary64 x ≡ to_bits binary64 y
 unfolding to_bits
 same_pattern {x} {y} (plain m e) (plain n d) h =
     ap (λ (k : ℕ). 0 + (size k - 53) * 2 ^ 52 + k / 2 ^ (size k - 53))

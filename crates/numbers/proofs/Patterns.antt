@@ -1,5 +1,6 @@
 -- The bit patterns of binary64: which are no NaN's, and which number one below infinity's stands for. Assumes nothing.
-use Rattle.std.proofs.Common.{◌≡◌, ℕ, suc, ◌+◌, ◌-◌, ◌*◌, ◌/◌, ◌%◌, ◌^◌, ◌<◌, ◌≤◌, false, not, T, leb, refl, ap, ◌∙◌, mod-eq_of_lt, arith, le-ltb, ne_eqb}
+use Rattle.std.proofs.Common.{◌≡◌, ℕ, suc, ◌+◌, ◌-◌, ◌*◌, ◌/◌, ◌%◌, ◌^◌, ◌<◌, ◌≤◌, false, not, T, leb, refl, ap, ◌∙◌}
+use Rattle.std.proofs.Common.{mod-eq_of_lt, arith, le-ltb, ne_eqb}
 use native.Mathlib.Nat.{div-eq_of_lt}
 use borrow.Author.Tests.{lt-leb}
 use lib.Ieee.{binary64, odd, of_fields, of_bits, nan_bits}

@@ -1,5 +1,7 @@
 -- Numbers that are finite and have no minus sign: their order is that of fractions. Assumes nothing.
-use Rattle.std.proofs.Common.{◌≡◌, ℕ, suc, ◌*◌, ◌<◌, ◌≤◌, Bool, true, false, ◌&&◌, ◌||◌, T, eqb, ltb, ℤ, refl, le_of_eq, le_of_lt, zero-lt-suc, lt_of_not-le, not-le_of_lt, eqb→eq, ltb→lt, lt→ltb, ltb-false, ltb-true, le-ltb, lt-ltb}
+use Rattle.std.proofs.Common.{◌≡◌, ℕ, suc, ◌*◌, ◌<◌, ◌≤◌, Bool, true, false, ◌&&◌, ◌||◌, T, eqb, ltb, ℤ, refl, le_of_eq}
+use Rattle.std.proofs.Common.{le_of_lt, zero-lt-suc, lt_of_not-le, not-le_of_lt, eqb→eq, ltb→lt, lt→ltb, ltb-false}
+use Rattle.std.proofs.Common.{ltb-true, le-ltb, lt-ltb}
 use lib.Ieee.{Float, nan, inf, fin, up, down, neg, lt, le}
 use lib.Ieee.Scale.{finite}
 use lib.Ieee.Positive.{num, den, positive, den_pos, first_pos, through}

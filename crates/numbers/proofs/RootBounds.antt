@@ -1,5 +1,6 @@
 -- Bounds of a root, from squares, and of a root's square. Assumes nothing.
-use Rattle.std.proofs.Common.{◌≡◌, ℕ, ◌+◌, ◌-◌, ◌*◌, ◌^◌, ◌≤◌, true, T, zero-le, lt_of_le_of_lt, mul-le-mul_right, mul-pos, arith, pow_pos}
+use Rattle.std.proofs.Common.{◌≡◌, ℕ, ◌+◌, ◌-◌, ◌*◌, ◌^◌, ◌≤◌, true, T, zero-le, lt_of_le_of_lt, mul-le-mul_right}
+use Rattle.std.proofs.Common.{mul-pos, arith, pow_pos}
 use lib.Ieee.{Float, binary64, fits, mul, lt}
 use lib.Ieee.Positive.{num, den, positive, den_pos, first_pos, own_value, mul_at}
 use Rattle.numbers.specs.Root.{units, root, AboveZero}

@@ -1,5 +1,8 @@
 -- Roots of whole numbers: what `floor_root` and `rounded` are, and how long a root is. Assumes nothing.
-use Rattle.std.proofs.Common.{◌≡◌, ℕ, zero, suc, ◌+◌, ◌-◌, ◌*◌, ◌/◌, ◌^◌, ◌<◌, ◌≤◌, Bool, true, false, not, T, leb, ◌∙◌, lt_of_lt_of_le, le_of_suc-le-suc, not-suc-le-zero, mul-le-mul, le_antisymm, mul-lt-mul_of_pos_right, lt_of_not-le, mul-div_cancel, arith, lit≤, leb→le, pow_pos, if◌then◌else◌}
+use Rattle.std.proofs.Common.{◌≡◌, ℕ, zero, suc, ◌+◌, ◌-◌, ◌*◌, ◌/◌, ◌^◌, ◌<◌, ◌≤◌, Bool, true, false, not, T, leb, ◌∙◌}
+use Rattle.std.proofs.Common.{lt_of_lt_of_le, le_of_suc-le-suc, not-suc-le-zero, mul-le-mul, le_antisymm}
+use Rattle.std.proofs.Common.{mul-lt-mul_of_pos_right, lt_of_not-le, mul-div_cancel, arith, lit≤, leb→le, pow_pos}
+use Rattle.std.proofs.Common.{if◌then◌else◌}
 use Prim.Native.Nat.{Ordering}
 use Prim.Native.Nat.{compare}
 use Prim.Native.Nat.compare

@@ -1,5 +1,7 @@
 -- The root of n units, where n * 2 ^ 1074 is m * 2 ^ 52 times an even power of two. Assumes nothing.
-use Rattle.std.proofs.Common.{◌≡◌, ℕ, zero, suc, ◌+◌, ◌-◌, ◌*◌, ◌/◌, ◌%◌, ◌^◌, ◌<◌, ◌≤◌, false, not, T, ap, ◌∙◌, le_trans, lt_of_lt_of_le, lt_irrefl, mul-le-mul_right, mul-le-mul_left, mul-lt-mul_of_pos_right, lt_of_not-le, mul-add, arith, pow_pos, pow_mono, pow-add}
+use Rattle.std.proofs.Common.{◌≡◌, ℕ, zero, suc, ◌+◌, ◌-◌, ◌*◌, ◌/◌, ◌%◌, ◌^◌, ◌<◌, ◌≤◌, false, not, T, ap, ◌∙◌}
+use Rattle.std.proofs.Common.{le_trans, lt_of_lt_of_le, lt_irrefl, mul-le-mul_right, mul-le-mul_left}
+use Rattle.std.proofs.Common.{mul-lt-mul_of_pos_right, lt_of_not-le, mul-add, arith, pow_pos, pow_mono, pow-add}
 use lib.Ieee.{binary64, size, odd, of_bits, nan_bits}
 use lib.Ieee.Digits.{size-lt, size-le}
 use Rattle.numbers.specs.Root.{rounded, root_units}

@@ -1,6 +1,9 @@
 -- The units of a binary64 above zero, from its bit pattern, and its digits, moved up to where a normal number's stand.
 -- Assumes nothing.
-use Rattle.std.proofs.Common.{◌≡◌, ℕ, suc, ◌+◌, ◌-◌, ◌*◌, ◌/◌, ◌%◌, ◌^◌, ◌<◌, ◌≤◌, Bool, false, ◌&&◌, T, eqb, ltb, leb, ℤ, sym, ap, ◌∙◌, subst, inl, inr, mul-le-mul_right, mod-eq_of_lt, div-lt_iff_lt-mul, eq-zero-or-pos, mul-lt-mul_of_pos_right, lt_of_not-le, mul_right_comm, mul-div_cancel, arith, ltb→lt, pow_pos, pow_mono, pow-add}
+use Rattle.std.proofs.Common.{◌≡◌, ℕ, suc, ◌+◌, ◌-◌, ◌*◌, ◌/◌, ◌%◌, ◌^◌, ◌<◌, ◌≤◌, Bool, false, ◌&&◌, T, eqb, ltb, leb}
+use Rattle.std.proofs.Common.{ℤ, sym, ap, ◌∙◌, subst, inl, inr, mul-le-mul_right, mod-eq_of_lt, div-lt_iff_lt-mul}
+use Rattle.std.proofs.Common.{eq-zero-or-pos, mul-lt-mul_of_pos_right, lt_of_not-le, mul_right_comm, mul-div_cancel}
+use Rattle.std.proofs.Common.{arith, ltb→lt, pow_pos, pow_mono, pow-add}
 use native.Mathlib.Decide.{dec_le}
 use lib.Count.{count_leading_zeros, leading_top}
 use lib.Ieee.{Float, nan, inf, fin, binary64, up, down, odd, fits, of_bits, to_bits}

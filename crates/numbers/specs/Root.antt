@@ -1,6 +1,7 @@
 -- The square root of a binary64, by squares of whole numbers alone, and what is proved of it (`proofs/Nearest.antt`).
 -- Definitions only.
-use Rattle.std.specs.Prelude.{◌≡◌, ℕ, zero, suc, ◌+◌, ◌-◌, ◌*◌, ◌/◌, ◌%◌, ◌^◌, ◌<◌, ◌≤◌, true, false, T, ◌≢◌, nat_le, to_bits, Float, if◌then◌else◌}
+use Rattle.std.specs.Prelude.{◌≡◌, ℕ, zero, suc, ◌+◌, ◌-◌, ◌*◌, ◌/◌, ◌%◌, ◌^◌, ◌<◌, ◌≤◌, true, false, T, ◌≢◌, nat_le}
+use Rattle.std.specs.Prelude.{to_bits, Float, if◌then◌else◌}
 use Prim.Native.Nat.{compare}
 use Rattle.std.specs.Float.{nan, inf, fin, binary64}
 use Rattle.std.specs.Float.Ieee.{up, down, size, nearest, odd, fits}

@@ -37,7 +37,8 @@ scanned true b zero at = by (ltb at (length b)) refl
     by false e = over (ltb-false at (length b) e)
 scanned all b (suc left) at = by (ltb at (length b)) refl (record_at b at) refl (scanned all b left)
   where
-    rest : {o : Optic} {next : ℕ} → at < length b → record_at b at ≡ good o next → (s : Scan) → Scanned b all left next s
+    rest : {o : Optic} {next : ℕ} → at < length b → record_at b at ≡ good o next → (s : Scan) →
+        Scanned b all left next s
         → Scanned b all (suc left) at (before (record { at = at; next = next; optic = o }) s)
     rest h e (refused n p) s = fails h e s
     rest h e (items l) s = passes h e s

@@ -1,5 +1,6 @@
 -- The record at a place of a recipe: its shape, its surface, and why it is refused. Definitions only.
-use Rattle.std.specs.Prelude.{ℕ, ◌+◌, ◌-◌, ◌*◌, ◌/◌, ◌%◌, List, ◌++◌, Bool, not, false, ◌&&◌, ◌||◌, length, replicate, eqb, leb, Float, if◌then◌else◌}
+use Rattle.std.specs.Prelude.{ℕ, ◌+◌, ◌-◌, ◌*◌, ◌/◌, ◌%◌, List, ◌++◌, Bool, not, false, ◌&&◌, ◌||◌, length, replicate}
+use Rattle.std.specs.Prelude.{eqb, leb, Float, if◌then◌else◌}
 use Rattle.numbers.specs.Arithmetic.{◌<₆₄◌, ◌≤₆₄◌, 0f}
 use Rattle.surfaces.specs.Types.{polynomial, no_polynomial, every_finite}
 use Rattle.surfaces.specs.declared.types.Coefficients.{Coefficients}

@@ -49,7 +49,8 @@ unfolding state_in counts_of numbers_of passes_in outcome_in ray_of
 read_back s h = rw (lt-ltb s.passes 65536 (omega (arith, h.0)), lt-ltb s.outcome 256 (omega (arith, h.1)))
 
 -- an accepted start's scans
-module _ (b : List ℕ) (ray : Ray) (index : Float) (z : List Float) (a : Admitted (recipe_of b) ray index (blank z)) where
+module _ (b : List ℕ) (ray : Ray) (index : Float) (z : List Float)
+    (a : Admitted (recipe_of b) ray index (blank z)) where
   abbrev at : ℕ → Held
   at n = advance (items_of b) n (held (first_state (length (items_of b)) (beam_of ray index)) (blank z))
 

@@ -9,13 +9,15 @@ use lib.Ieee.Scale.{finite}
 use Rattle.surfaces.specs.Types.{no_meridians, both_finite}
 use Rattle.surfaces.specs.Refusal.{Told, Ended, gives, handed_out, line_of, ended}
 use Rattle.surfaces.specs.Snell.{reflected, reflect_answer, bent, refracted, refract_answer}
-use Rattle.surfaces.specs.Conic.{from_radius_answer, from_curvature_answer, conic_sag, conic_sag_answer, gradient_normal}
+use Rattle.surfaces.specs.Conic.{from_radius_answer, from_curvature_answer, conic_sag, conic_sag_answer}
+use Rattle.surfaces.specs.Conic.{gradient_normal}
 use Rattle.surfaces.specs.Conic.{conic_normal, conic_normal_answer, landed_within, plane_crossing, first_on}
 use Rattle.surfaces.specs.Conic.{curved_crossing, conic_crossing, normal_at, conic_meet, conic_meet_answer}
 use Rattle.surfaces.specs.Newton.{Shape, going, arrived_at, moved_by, pass_at, passes_from, newton_end, next_pass}
 use Rattle.surfaces.specs.Newton.{limited_pass}
 use Rattle.surfaces.specs.Sags.{edge_root}
-use Rattle.surfaces.specs.Asphere.{base_sag, base_slope, even_sag, even_slope, even_facing, even_normal, new_even_answer}
+use Rattle.surfaces.specs.Asphere.{base_sag, base_slope, even_sag, even_slope, even_facing, even_normal}
+use Rattle.surfaces.specs.Asphere.{new_even_answer}
 use Rattle.surfaces.specs.Asphere.{even_sag_answer, even_slope_answer, even_normal_answer, even_paraxial_answer}
 use Rattle.surfaces.specs.Asphere.{even_crossing_answer, odd_sag, odd_base_slope, odd_slope, odd_slopes_at, odd_normal}
 use Rattle.surfaces.specs.Asphere.{normal_of, new_odd_answer, odd_sag_answer, odd_normal_answer, odd_crossing_answer}
@@ -23,7 +25,8 @@ use Rattle.surfaces.specs.Biconic.{biconic_sag, biconic_slopes_at, biconic_slope
 use Rattle.surfaces.specs.Biconic.{new_biconic_answer, biconic_sag_answer, biconic_slopes_answer, biconic_normal_answer}
 use Rattle.surfaces.specs.Biconic.{biconic_crossing_answer, biconic_good, biconic_paraxial_answer, circle_sag}
 use Rattle.surfaces.specs.Biconic.{toroid_sag, circle_slopes, toroid_slopes, toroid_normal, new_toroid_answer}
-use Rattle.surfaces.specs.Biconic.{toroid_sag_answer, toroid_slopes_answer, toroid_normal_answer, toroid_crossing_answer}
+use Rattle.surfaces.specs.Biconic.{toroid_sag_answer, toroid_slopes_answer, toroid_normal_answer}
+use Rattle.surfaces.specs.Biconic.{toroid_crossing_answer}
 use Rattle.surfaces.specs.Surface.{Way, whole, passes, pass_by, chain_by, normal_by, surface_normal, onward_from}
 use Rattle.surfaces.specs.Surface.{turn_answer}
 use Rattle.surfaces.specs.Demand1.{Only, Demand1}
@@ -223,12 +226,13 @@ ruleset tells = (
 )
 
 pub demand_1 : Demand1
-unfolding reflect_answer refract_answer from_radius_answer from_curvature_answer conic_sag conic_sag_answer conic_normal_answer
-    normal_at conic_meet conic_meet_answer base_sag new_even_answer even_sag even_sag_answer even_slope_answer even_normal even_facing
-    even_normal_answer even_paraxial_answer even_crossing_answer new_odd_answer odd_sag odd_sag_answer odd_normal odd_normal_answer
-    odd_crossing_answer normal_of new_biconic_answer biconic_sag biconic_sag_answer biconic_slopes_answer biconic_normal
-    biconic_normal_answer biconic_crossing_answer new_toroid_answer toroid_sag circle_sag toroid_sag_answer toroid_slopes_answer
-    toroid_normal toroid_normal_answer toroid_crossing_answer surface_normal turn_answer one_of
+unfolding reflect_answer refract_answer from_radius_answer from_curvature_answer conic_sag conic_sag_answer
+    conic_normal_answer normal_at conic_meet conic_meet_answer base_sag new_even_answer even_sag even_sag_answer
+    even_slope_answer even_normal even_facing even_normal_answer even_paraxial_answer even_crossing_answer
+    new_odd_answer odd_sag odd_sag_answer odd_normal odd_normal_answer odd_crossing_answer normal_of new_biconic_answer
+    biconic_sag biconic_sag_answer biconic_slopes_answer biconic_normal biconic_normal_answer biconic_crossing_answer
+    new_toroid_answer toroid_sag circle_sag toroid_sag_answer toroid_slopes_answer toroid_normal toroid_normal_answer
+    toroid_crossing_answer surface_normal turn_answer one_of
 demand_1 = record {
   reflect = search tells depth 10;
   snell_refract = search tells depth 10;

@@ -233,7 +233,8 @@ module _ (ray : Ray) (s : ConicSurface) where
   unfolding curved_crossing
   crossing =
       let e = quadratic_of ray s in
-      by_test (Least (no_crossing 6) lands_at (Crosses ray s)) (discriminant_of e <₆₄ 0f) _ (first_on ray s (candidates e))
+      by_test (Least (no_crossing 6) lands_at (Crosses ray s)) (discriminant_of e <₆₄ 0f) _
+      (first_on ray s (candidates e))
       (λ d. nothing (λ u c. true≢false (sym d ∙ c.candidate.discriminant)))
       (λ d.
       same_least

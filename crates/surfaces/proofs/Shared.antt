@@ -19,7 +19,8 @@ use Rattle.surfaces.specs.Biconic.{numerator_of, biconic_radicand, biconic_slope
 use Rattle.surfaces.specs.Biconic.{base_curve_radicand, base_curve_sag, slope_radicand, circle_slopes, toroid_slopes}
 use Rattle.surfaces.specs.Parts.{root_again, depths, no_depths, base_root, base_sag_from, even_depth, even_slope_from}
 use Rattle.surfaces.specs.Parts.{even_slopes_from, odd_depth, odd_slope_from, odd_slopes_from, biconic_depth}
-use Rattle.surfaces.specs.Parts.{biconic_slopes_from, circle_depth, toroid_depth, toroid_slopes_from, shape_of, depth_of}
+use Rattle.surfaces.specs.Parts.{biconic_slopes_from, circle_depth, toroid_depth, toroid_slopes_from, shape_of}
+use Rattle.surfaces.specs.Parts.{depth_of}
 use Rattle.surfaces.specs.Parts.{slopes_from}
 use Rattle.surfaces.proofs.Again.{root_again_lem, larger_fits}
 use Rattle.surfaces.proofs.Depths.{even_slope_lem, odd_slope_lem}
@@ -124,7 +125,8 @@ module _ (z s w b : Float) where
         ← g.1,
         ← g.3,
         edge_root_lem radicand g.0.was,
-        root_again_lem radicand (larger radicand 0f) (sub-fits binary64 _ _) (larger_fits radicand (sub-fits binary64 _ _)),
+        root_again_lem radicand (larger radicand 0f) (sub-fits binary64 _ _)
+            (larger_fits radicand (sub-fits binary64 _ _)),
         edge_root_lem (base_curve_radicand cy ky y) f.was,
         slope_again cy ky y,
       )

@@ -31,7 +31,8 @@ module _ (a : List Float) (n i : ℕ) where
   unfolding every_finite
   finite_turn h k e = rw (here h k) (goes_on (finite (get_or a i nan)) _ e)
 
-  pub finite_stop : i < n → i < length a → not (finite (get_or a i nan)) ≡ true → every_finite (drop i (take n a)) ≡ false
+  pub finite_stop : i < n → i < length a → not (finite (get_or a i nan)) ≡ true →
+      every_finite (drop i (take n a)) ≡ false
   unfolding every_finite
   finite_stop h k e = rw (here h k) (ends_there (finite (get_or a i nan)) _ e)
 

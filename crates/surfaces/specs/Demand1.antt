@@ -11,7 +11,8 @@ use Rattle.surfaces.specs.Asphere.{new_even_answer, even_sag_answer, even_slope_
 use Rattle.surfaces.specs.Asphere.{even_paraxial_answer, even_crossing_answer, new_odd_answer, odd_sag_answer}
 use Rattle.surfaces.specs.Asphere.{odd_normal_answer, odd_crossing_answer}
 use Rattle.surfaces.specs.Biconic.{new_biconic_answer, biconic_sag_answer, biconic_slopes_answer, biconic_normal_answer}
-use Rattle.surfaces.specs.Biconic.{biconic_crossing_answer, biconic_paraxial_answer, new_toroid_answer, toroid_sag_answer}
+use Rattle.surfaces.specs.Biconic.{biconic_crossing_answer, biconic_paraxial_answer, new_toroid_answer}
+use Rattle.surfaces.specs.Biconic.{toroid_sag_answer}
 use Rattle.surfaces.specs.Biconic.{toroid_slopes_answer, toroid_normal_answer, toroid_crossing_answer}
 use Rattle.surfaces.specs.Surface.{chain, turn_answer}
 use Rattle.surfaces.specs.declared.types.Vec3.{Vec3}

@@ -2,7 +2,8 @@
 -- formulas where each of their terms counts: one list, which one theorem covers (P4). A row has a rule's answer and the
 -- one worked out by hand, each as a number of the table, the passes where there are any, and the bit patterns of all
 -- values. Assumes nothing.
-use Rattle.std.specs.Prelude.{ℕ, ◌+◌, ◌-◌, ◌*◌, ◌^◌, Bool, true, false, ◌&&◌, List, [], ◌∷◌, ◌++◌, eqb, length, take, Float, if◌then◌else◌}
+use Rattle.std.specs.Prelude.{ℕ, ◌+◌, ◌-◌, ◌*◌, ◌^◌, Bool, true, false, ◌&&◌, List, [], ◌∷◌, ◌++◌, eqb, length, take}
+use Rattle.std.specs.Prelude.{Float, if◌then◌else◌}
 use Rattle.std.specs.Float.{nan, inf, binary64}
 use Rattle.std.specs.Float.Ieee.{of_bits, to_bits, neg, round}
 use Rattle.numbers.specs.Arithmetic.{0f, ½, 1f, 2f, 4f, 1e-4}
@@ -298,7 +299,8 @@ cases =
     (meet (conic_meet_answer (past_the_vertex 1e-4) ball) ⇒ meet (refused no_hit (plain 6))) ∷
     (meet (conic_meet_answer (past_the_vertex below_1e-4) ball) ⇒ meet (hit 0f (height below_1e-4))) ∷
     -- a negative semi-diameter is 3 for a conic and 2 for the others, after a number that is not finite, 2
-    (meet (conic_meet_answer (ray_on_axis (neg 2f)) (conic_surface 0f 0f 0f (neg 1f))) ⇒ meet (refused no_hit (plain 3))) ∷
+    (meet (conic_meet_answer (ray_on_axis (neg 2f)) (conic_surface 0f 0f 0f (neg 1f)))
+    ⇒ meet (refused no_hit (plain 3))) ∷
     (meet (conic_meet_answer (ray_on_axis nan) (conic_surface 0f 0f 0f (neg 1f))) ⇒ meet (refused no_hit (plain 2))) ∷
     (crossing (even_crossing_answer (even 0f 0f no_coefficients (neg 1f)) (ray_on_axis (neg 2f)) 0f)
     ⇒ crossing (no_crossing 2)) ∷
@@ -324,7 +326,8 @@ cases =
     -- odd asphere with such a base: sag 5/2 + (25/2 - 625/16) + (-15/2 + 375/8) at r 5, and there the slope
     -- 3/2 + (5 - 125/4) + (-3/2 + 225/8), which is 15/8
     (number (odd_sag_answer odd (whole 5)) ⇒ number (gives (245 over 16))) ∷
-    (direction (odd_normal_answer odd (whole 3) 4f) ⇒ direction (gives (vec (9 over 17) (12 over 17) (neg (8 over 17)))))
+    (direction (odd_normal_answer odd (whole 3) 4f)
+    ⇒ direction (gives (vec (9 over 17) (12 over 17) (neg (8 over 17)))))
     ∷
     -- the powers of its odd terms begin at r: a cone that rises by 1/4 is met at t 2, from (4, 0, -1) along z
     (crossing (odd_crossing_answer (odds (1 over 4 ∷ []) (whole 5)) beside 0f)
@@ -404,7 +407,8 @@ cases =
     (ray_on_axis (neg (whole (10 ^ 308))))) ⇒ end (ended (no_crossing 6) 1)) ∷
     -- a normal that is not finite meets refraction's own test, 4 and not 9
     (reached (surface_end steep (ray (vec 1f 0f (whole (5 * 10 ^ 307))) z)) ⇒ 1 ∷ 1 ∷ bits (0f ∷ [])) ∷
-    (turn (turn_answer steep z (vec 1f 0f (whole (5 * 10 ^ 307))) (Media 1f 1f)) ⇒ turn (refused no_leaving (plain 4))) ∷
+    (turn (turn_answer steep z (vec 1f 0f (whole (5 * 10 ^ 307))) (Media 1f 1f))
+    ⇒ turn (refused no_leaving (plain 4))) ∷
     -- refraction: k exactly 0 passes, below it is total reflection
     (direction (refract_answer (vec 1f 0f 0f) backwards 1f 1f) ⇒ direction (gives (vec 1f 0f 0f))) ∷
     (direction (refract_answer (vec 1f 0f 0f) backwards 2f 1f) ⇒ direction (no_direction 8)) ∷

@@ -14,7 +14,8 @@ use Rattle.surfaces.specs.Sags.{edge_root}
 use Rattle.surfaces.specs.Newton.{Shape}
 use Rattle.surfaces.specs.Asphere.{power_sum, slope_sum, radial_slopes, even_shape, odd_on_axis, odd_shape}
 use Rattle.surfaces.specs.Biconic.{numerator_of, biconic_radicand, on_axis, biconic_slopes_at, biconic_shape}
-use Rattle.surfaces.specs.Biconic.{base_curve_radicand, base_curve_sag, slope_radicand, base_curve_slope, circle_slopes_at}
+use Rattle.surfaces.specs.Biconic.{base_curve_radicand, base_curve_sag, slope_radicand, base_curve_slope}
+use Rattle.surfaces.specs.Biconic.{circle_slopes_at}
 use Rattle.surfaces.specs.Biconic.{toroid_shape}
 use Rattle.surfaces.specs.Surface.{Way, whole, passes, conic_of}
 use Rattle.surfaces.specs.declared.types.Vec3.{Vec3}

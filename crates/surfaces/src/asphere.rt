@@ -6,7 +6,8 @@ ghost use Rattle.surfaces.specs.Refusal.{told_odd};
 ghost use Rattle.surfaces.specs.Asphere.{even_sag, even_slope, length_of, facing_of, normal_of, even_facing};
 ghost use Rattle.surfaces.specs.Asphere.{even_normal, even_good, new_even_answer, even_sag_answer, even_slope_answer};
 ghost use Rattle.surfaces.specs.Asphere.{even_normal_answer, even_paraxial_answer, even_crossing_answer, odd_sag};
-ghost use Rattle.surfaces.specs.Asphere.{odd_slopes_at, odd_normal, odd_good, new_odd_answer, powers_of, odd_sag_answer};
+ghost use Rattle.surfaces.specs.Asphere.{odd_slopes_at, odd_normal, odd_good, new_odd_answer, powers_of};
+ghost use Rattle.surfaces.specs.Asphere.{odd_sag_answer};
 ghost use Rattle.surfaces.specs.Asphere.{odd_normal_answer, odd_crossing_answer};
 
 use crate::newton::{Profile, can_be_met, newton};

@@ -58,7 +58,8 @@ first_stands [] b = arrived refl refl refl
 first_stands (i ∷ l) b =
     walking (outcome_before (i ∷ l) (i ∷ l) 0 refl zero-le) (omega arith) (limit_bounds i.optic.surface.kind).0
 
-module _ (y : List ℕ) (ray : Ray) (index : Float) (z : List Float) (a : Admitted (recipe_of y) ray index (blank z)) where
+module _ (y : List ℕ) (ray : Ray) (index : Float) (z : List Float)
+    (a : Admitted (recipe_of y) ray index (blank z)) where
   abbrev l : List Item
   l = items_of y
 
@@ -90,7 +91,8 @@ module _ (y : List ℕ) (ray : Ray) (index : Float) (z : List Float) (a : Admitt
   pub shown : (n : ℕ) → Shows [] (length z) n u (state_at l (length y) 0 b 0 n) (advance l n first)
   shown n =
       let room = subst (λ (k : ℕ). width * length l ≤ k) (length-replicate (length z) 0f) a.room in
-      let Shown : ℕ → Type 0 = λ o. Shows [] (length z) n u (state_at l (length y) 0 b 0 n) (advance l n (at_first o)) in
+      let Shown : ℕ → Type 0 =
+      λ o. Shows [] (length z) n u (state_at l (length y) 0 b 0 n) (advance l n (at_first o)) in
       subst Shown (sym (outcome_before l l 0 refl zero-le)) (closed y l l chain 0 0 (length z) n b [] refl refl room)
 
   few : (n : ℕ) → (advance l n first).state.steps ≤ sum_limits l
@@ -158,7 +160,8 @@ module _ (y : List ℕ) (ray : Ray) (index : Float) (z : List Float) (a : Admitt
       }
 
 -- an accepted start
-module _ (y : List ℕ) (ray : Ray) (index : Float) (z : List Float) (h : (start_of y ray index z).answer.number ≡ 1) where
+module _ (y : List ℕ) (ray : Ray) (index : Float) (z : List Float)
+    (h : (start_of y ray index z).answer.number ≡ 1) where
   pub admitted_start : Admitted (recipe_of y) ray index (blank z)
   unfolding start_of start_at
   admitted_start = admitted_by 0 ray index (blank z) (recipe_of y) (scan_sound true y most_records 0) _ h

@@ -42,7 +42,8 @@ place_within b w = by (scan true b most_records 0) refl
     by (refused n p) e = let h = scan_place true b most_records 0 e in omega arith
     by (items l) e = omega (arith, (notes_answer w nothing l).1)
 
-module _ (f : List ℕ) (z y : List Float) (blanked : y ≡ blank z) (s : Source) (read : s ≡ source_of f) (a : Answer) where
+module _ (f : List ℕ) (z y : List Float) (blanked : y ≡ blank z) (s : Source)
+    (read : s ≡ source_of f) (a : Answer) where
   pub no_source : s.number ≢ 1 → a ≡ refused_answer 10 0 → record { answer = a; buffer = y } ≡ start_file_of f z
   unfolding start_file_of
   no_source h e = rw (← read, ne_eqb s.number 1 h, e, blanked)

@@ -93,4 +93,5 @@ module _ (l : List Item) (k place : ℕ) (b : Beam) (z : List Float) where
       let t' : Float = (pass_answer o.surface b.ray made t).value.t in
       let from = chain o.surface b.ray n in
       let c : from (made + 1) t' ≡ from (suc made) t' = rw (add-one made) in
-      ap (λ (g : Held). advance l n g) (on made steps t e) ∙ waits {made = made + 1} p (steps + 1) n (omega arith) ∙ rw (u, v, c, e)
+      ap (λ (g : Held). advance l n g) (on made steps t e)
+      ∙ waits {made = made + 1} p (steps + 1) n (omega arith) ∙ rw (u, v, c, e)

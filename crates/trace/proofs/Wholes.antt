@@ -27,7 +27,8 @@ use Rattle.trace.proofs.Starts.{refused_alike, limits_few}
 use Rattle.trace.proofs.Demand3.{shown, sound}
 
 -- all steps from an accepted start
-module _ (y : List ℕ) (ray : Ray) (index : Float) (z : List Float) (a : Admitted (recipe_of y) ray index (blank z)) where
+module _ (y : List ℕ) (ray : Ray) (index : Float) (z : List Float)
+    (a : Admitted (recipe_of y) ray index (blank z)) where
   abbrev first : State
   first = first_state (length (items_of y)) (beam_of ray index)
 

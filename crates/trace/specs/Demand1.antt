@@ -1,7 +1,8 @@
 -- Demand 1. Every call ends with an answer or a refusal from SCOPE's table, for every input. A refused start blanks the
 -- whole result buffer, a refused continuation changes nothing, and 12 is given exactly if the state does not fit.
 -- Definitions only.
-use Rattle.std.specs.Prelude.{ℕ, ◌+◌, ◌*◌, ◌≤◌, ◌<◌, ◌≡◌, ◌≢◌, ◌↔◌, ◌⊎◌, List, [], ◌∷◌, true, false, length, replicate, drop, Float}
+use Rattle.std.specs.Prelude.{ℕ, ◌+◌, ◌*◌, ◌≤◌, ◌<◌, ◌≡◌, ◌≢◌, ◌↔◌, ◌⊎◌, List, [], ◌∷◌, true, false, length, replicate}
+use Rattle.std.specs.Prelude.{drop, Float}
 use Rattle.std.specs.Float.Ieee.Scale.{finite}
 use Rattle.numbers.specs.Arithmetic.{◌≤₆₄◌, 0f}
 use Rattle.surfaces.specs.Types.{ray_finite}
@@ -100,7 +101,8 @@ pub record Demand1 : Type 0 where
       → (start_of b ray index z).answer.number ≢ 1 → Blanked z (start_of b ray index z)
   pub refused_whole : (b : List ℕ) (ray : Ray) (index : Float) (z : List Float)
       → (whole_of b ray index z).answer.number ≢ 1 → Blanked z (whole_of b ray index z)
-  pub refused_file : (f : List ℕ) (z : List Float) → (start_file_of f z).answer.number ≢ 1 → Blanked z (start_file_of f z)
+  pub refused_file : (f : List ℕ) (z : List Float) → (start_file_of f z).answer.number ≢ 1 →
+      Blanked z (start_file_of f z)
   -- a refused continuation changes nothing
   pub refused_resume : (b : List ℕ) (s : State) (z : List Float) (allowed : ℕ)
       → (continue_of b s z allowed).answer.number ≢ 1 → Unchanged s z (continue_of b s z allowed)

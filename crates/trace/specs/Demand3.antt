@@ -2,7 +2,8 @@
 -- state that the last returned. However the step allowances are chosen, what stands after every call is told here by
 -- the surfaces' own ends, without the step: the records and the trace's end by the unbroken trace, and so the state,
 -- but for the t within a surface, which is that of the chain of its passes. Definitions only.
-use Rattle.std.specs.Prelude.{ℕ, suc, ◌+◌, ◌-◌, ◌≤◌, ◌<◌, min, ◌≡◌, ◌≢◌, ◌↔◌, true, false, List, [], ◌∷◌, length, take, leb, Float, if◌then◌else◌}
+use Rattle.std.specs.Prelude.{ℕ, suc, ◌+◌, ◌-◌, ◌≤◌, ◌<◌, min, ◌≡◌, ◌≢◌, ◌↔◌, true, false, List, [], ◌∷◌, length, take}
+use Rattle.std.specs.Prelude.{leb, Float, if◌then◌else◌}
 use Rattle.numbers.specs.Arithmetic.{0f}
 use Rattle.surfaces.specs.Refusal.{done}
 use Rattle.surfaces.specs.Surface.{surface_end, limit_of, chain}
@@ -95,7 +96,8 @@ called b ray index z allowances = calls b allowances (start_of b ray index z)
 
 pub record Demand3 : Type 0 where
   pub keeps : (b : List ℕ) (ray : Ray) (index : Float) (z : List Float) (allowances : List ℕ) → Accepted b ray index z
-      → Kept (trace_of b ray index) (state_at (items_of b) (length b) 0 (beam_of ray index) 0 (sum allowances)) (length z)
+      → Kept (trace_of b ray index)
+      (state_at (items_of b) (length b) 0 (beam_of ray index) 0 (sum allowances)) (length z)
       (sum allowances) (called b ray index z allowances)
   -- it has ended, with the unbroken trace's answer, once the allowances add up to the surfaces' limits
   pub ends : (b : List ℕ) (ray : Ray) (index : Float) (z : List Float) (allowances : List ℕ) → Accepted b ray index z

@@ -1,6 +1,7 @@
 -- The answer for one surface beside the full trace, and beside that of the recipe cut after its record. Definitions
 -- only.
-use Rattle.std.specs.Prelude.{ℕ, suc, ◌*◌, ◌≤◌, ◌<◌, ◌≡◌, List, length, take, drop, replicate, ltb, Float, if◌then◌else◌}
+use Rattle.std.specs.Prelude.{ℕ, suc, ◌*◌, ◌≤◌, ◌<◌, ◌≡◌, List, length, take, drop, replicate, ltb, Float}
+use Rattle.std.specs.Prelude.{if◌then◌else◌}
 use Rattle.numbers.specs.Arithmetic.{0f}
 use Rattle.surfaces.specs.declared.types.Ray.{Ray}
 use Rattle.recipe.specs.Scan.{Scan, refused, items, item_at}
@@ -33,7 +34,8 @@ pub record OneSurface : Type 0 where
   pub in_full : (b : List ℕ) (ray : Ray) (index : Float) (z : List Float) (k : ℕ)
       → (start_of b ray index z).answer.number ≡ 1 → k < length (items_of b) → InFull b ray index z k
   -- it is always the answer for the cut recipe
-  pub by_cut : (b : List ℕ) (ray : Ray) (index : Float) (k : ℕ) → reach_of b ray index k ≡ reach_of (cut b k) ray index k
+  pub by_cut : (b : List ℕ) (ray : Ray) (index : Float) (k : ℕ) →
+      reach_of b ray index k ≡ reach_of (cut b k) ray index k
   -- which, where that is a record, passes the start's checks and ends with it, so that its full trace has it
   pub cut_passes : (b : List ℕ) (ray : Ray) (index : Float) (z : List Float) (k : ℕ)
       → (reach_of b ray index k).number ≡ 1 → width * suc k ≤ length z

@@ -1,5 +1,6 @@
 -- What start and continue answer, and what they leave in the result buffer, on every input. Definitions only.
-use Rattle.std.specs.Prelude.{ℕ, ◌+◌, ◌*◌, List, map, true, not, ◌&&◌, length, replicate, eqb, ltb, Float, if◌then◌else◌}
+use Rattle.std.specs.Prelude.{ℕ, ◌+◌, ◌*◌, List, map, true, not, ◌&&◌, length, replicate, eqb, ltb, Float}
+use Rattle.std.specs.Prelude.{if◌then◌else◌}
 use Rattle.std.specs.Float.Ieee.Scale.{finite}
 use Rattle.numbers.specs.Arithmetic.{◌≤₆₄◌, 0f}
 use Rattle.surfaces.specs.Types.{no_ray, ray_finite}
@@ -79,7 +80,8 @@ begun_of c base ray index room =
 -- start first blanks the whole buffer
 unfoldable pub start_at : ℕ → List ℕ → Ray → Float → List Float → Reply
 start_at base b ray index z =
-    admitted (recipe_of b) base ray index (blank z) (λ l. reply 1 0 (first_state (length l) (beam_of ray index)) (blank z))
+    admitted (recipe_of b) base ray index (blank z)
+    (λ l. reply 1 0 (first_state (length l) (beam_of ray index)) (blank z))
 
 unfoldable pub start_of : List ℕ → Ray → Float → List Float → Reply
 start_of b ray index z = start_at 0 b ray index z

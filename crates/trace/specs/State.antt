@@ -1,5 +1,6 @@
 -- A step, the steps that a call takes, and which states fit a recipe. Definitions only.
-use Rattle.std.specs.Prelude.{ℕ, zero, suc, ◌+◌, ◌*◌, List, Bool, not, ◌&&◌, ◌||◌, length, eqb, ltb, leb, Float, if◌then◌else◌}
+use Rattle.std.specs.Prelude.{ℕ, zero, suc, ◌+◌, ◌*◌, List, Bool, not, ◌&&◌, ◌||◌, length, eqb, ltb, leb, Float}
+use Rattle.std.specs.Prelude.{if◌then◌else◌}
 use Rattle.std.proofs.lemmas.List.Edits.{sets}
 use Rattle.std.specs.Float.Ieee.Scale.{finite}
 use Rattle.numbers.specs.Arithmetic.{◌≤₆₄◌, 0f}

@@ -1,5 +1,7 @@
 -- Texts that are put into a buffer one behind the other, and the words of a line. Assumes nothing.
-use Rattle.std.proofs.Common.{◌≡◌, ℕ, suc, ◌+◌, ◌-◌, ◌<◌, ◌≤◌, List, [], ◌∷◌, ◌++◌, map, length, take, drop, set, sym, refl, ap, ◌∙◌, append_assoc, add-zero, arith, length-append, set-set, le-ltb, lt-ltb, ne_eqb}
+use Rattle.std.proofs.Common.{◌≡◌, ℕ, suc, ◌+◌, ◌-◌, ◌<◌, ◌≤◌, List, [], ◌∷◌, ◌++◌, map, length, take, drop, set, sym}
+use Rattle.std.proofs.Common.{refl, ap, ◌∙◌, append_assoc, add-zero, arith, length-append, set-set, le-ltb, lt-ltb}
+use Rattle.std.proofs.Common.{ne_eqb}
 use lib.Ieee.{Float}
 use lib.Seq.{sets, length-sets, sets-eq, append_snoc}
 use Rattle.lines.specs.Output.{put, put_floats, ended}

@@ -1,5 +1,7 @@
 -- The records of an unbroken trace: what each holds, how many there are, and their lines. Assumes nothing.
-use Rattle.std.proofs.Common.{◌≡◌, ℕ, suc, ◌+◌, ◌^◌, ◌≤◌, Bool, true, false, ◌&&◌, ◌||◌, eqb, leb, ◌≢◌, List, [], ◌∷◌, ◌++◌, length, refl, ap, ◌∙◌, append_assoc, zero-le, arith, le→leb, take_at, drop_at, ne_eqb, eqb-true, leb-true, if◌then◌else◌}
+use Rattle.std.proofs.Common.{◌≡◌, ℕ, suc, ◌+◌, ◌^◌, ◌≤◌, Bool, true, false, ◌&&◌, ◌||◌, eqb, leb, ◌≢◌, List, [], ◌∷◌}
+use Rattle.std.proofs.Common.{◌++◌, length, refl, ap, ◌∙◌, append_assoc, zero-le, arith, le→leb, take_at, drop_at}
+use Rattle.std.proofs.Common.{ne_eqb, eqb-true, leb-true, if◌then◌else◌}
 use lib.Ieee.{Float, binary64, round, to_unsigned, in_float}
 use lib.Ieee.Back.{unsigned_back}
 use borrow.Author.Tests.{eqb-false}

@@ -1,5 +1,7 @@
 -- How long the lines are at most. Assumes nothing.
-use Rattle.std.proofs.Common.{◌≡◌, ℕ, zero, suc, ◌+◌, ◌*◌, ◌/◌, ◌%◌, ◌≤◌, Bool, true, false, ltb, List, [], ◌∷◌, ◌++◌, map, length, take, drop, refl, zero-le, arith, length-append, length-drop, length-take, length-take-le, if◌then◌else◌}
+use Rattle.std.proofs.Common.{◌≡◌, ℕ, zero, suc, ◌+◌, ◌*◌, ◌/◌, ◌%◌, ◌≤◌, Bool, true, false, ltb, List, [], ◌∷◌, ◌++◌}
+use Rattle.std.proofs.Common.{map, length, take, drop, refl, zero-le, arith, length-append, length-drop, length-take}
+use Rattle.std.proofs.Common.{length-take-le, if◌then◌else◌}
 use lib.Ieee.{Float, binary64, to_bits}
 use Rattle.lines.specs.Output.{glyph, hex_text, decimal_text}
 use Rattle.trace.specs.declared.state.State.{State}
@@ -59,7 +61,8 @@ record_short number row h =
     let few : length (take 11 (drop 1 row)) ≤ 11 = simp (length-take, length-drop) (omega arith) in
     three_counts _ _ _ (take 11 (drop 1 row)) few
 
-pub rows_short : (number n : ℕ) (z : List Float) → width * n ≤ length z → length (row_lines number n z) ≤ record_bytes * n
+pub rows_short : (number n : ℕ) (z : List Float) → width * n ≤ length z →
+    length (row_lines number n z) ≤ record_bytes * n
 unfolding row_lines
 rows_short number zero z h = zero-le
 rows_short number (suc n) z h =

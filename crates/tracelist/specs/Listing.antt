@@ -1,6 +1,7 @@
 -- What `tracelist` prints of a file: a line for each record of the unbroken trace and then its end, or one line for a
 -- refused start. Definitions only.
-use Rattle.std.specs.Prelude.{ℕ, suc, ◌*◌, List, [], ◌∷◌, ◌++◌, map, length, take, drop, replicate, ◌==◌, slice_index_or, to_bits, Float, if◌then◌else◌}
+use Rattle.std.specs.Prelude.{ℕ, suc, ◌*◌, List, [], ◌∷◌, ◌++◌, map, length, take, drop, replicate, ◌==◌}
+use Rattle.std.specs.Prelude.{slice_index_or, to_bits, Float, if◌then◌else◌}
 use Prim.Native.Char.{code}
 use Prim.Native.String.{String, [] as no_text, ◌∷◌ as ◌then◌}
 use Rattle.std.specs.Float.{nan, binary64}

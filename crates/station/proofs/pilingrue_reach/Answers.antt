@@ -4,4 +4,4 @@ use Rattle.station.specs.Lent.{told_row}
 use Rattle.station.proofs.pilingrue_reach.Goals as goal
 
 pub returns : goal.returns
-returns c = let s = c in rw (← s.ray_of.ensures) (ap told_row s.reach-r.ensures)
+returns c = rw (← c.ray_of.ensures) (ap told_row c.reach-r.ensures)

@@ -62,5 +62,4 @@ bounds-c-4 c = search rules
 pub returns : goal.returns
 unfolding state_in
 returns c =
-    let c1 = c in let c2 = c1 in
-    rw (← c2.passes_in.ensures, ← c1.ray_of.ensures, ← c.outcome_in.ensures)
+    rw (← c.passes_in.ensures, ← c.ray_of.ensures, ← c.outcome_in.ensures)

@@ -18,25 +18,22 @@ enum_told-1 c = search rules
 pub returns-in-Given : goal.returns-in-Given
 unfolding conic_then decimal of_bits
 returns-in-Given c =
-    let c1 = c in let c5 = c1 in let c7 = c5 in
-    let c8 = c7 in let c9 = c8 in
     rw (
-      ← c9.ray_of-ray.ensures,
-      ← c8.conic_of.ensures,
-      ← c7.intersect_conic.ensures,
-      c5.in-Given.is,
-      ← c1.snell_refract.ensures,
+      ← c.ray_of-ray.ensures,
+      ← c.conic_of.ensures,
+      ← c.intersect_conic.ensures,
+      c.in-Given.is,
+      ← c.snell_refract.ensures,
       ← c.total.ensures,
     )
 
 pub returns-in-Refused : goal.returns-in-Refused
 unfolding conic_then decimal of_bits
 returns-in-Refused c =
-    let c2 = c in let c3 = c2 in let c4 = c3 in
     rw (
-      ← c4.ray_of-ray.ensures,
-      ← c3.conic_of.ensures,
-      ← c2.intersect_conic.ensures,
+      ← c.ray_of-ray.ensures,
+      ← c.conic_of.ensures,
+      ← c.intersect_conic.ensures,
       c.in-Refused.is,
       never_done,
     )

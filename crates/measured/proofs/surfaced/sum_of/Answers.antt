@@ -17,7 +17,7 @@ enum_told-1 c = search rules
 
 pub returns-in-Given : goal.returns-in-Given
 unfolding sum_landing decimal of_bits
-returns-in-Given c = let c6 = c in rw c6.in-Given.is
+returns-in-Given c = rw c.in-Given.is
 
 pub returns-in-Refused : goal.returns-in-Refused
 unfolding sum_landing decimal of_bits

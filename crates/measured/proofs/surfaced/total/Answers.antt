@@ -17,7 +17,7 @@ enum_told-1 c = search rules
 
 pub returns-in-Given : goal.returns-in-Given
 unfolding sum_vec decimal of_bits
-returns-in-Given c = let c3 = c in rw c3.in-Given.is
+returns-in-Given c = rw c.in-Given.is
 
 pub returns-in-Refused : goal.returns-in-Refused
 unfolding sum_vec decimal of_bits

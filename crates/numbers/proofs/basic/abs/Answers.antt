@@ -1,5 +1,6 @@
 -- `numbers::abs` meets its contract: 0 less a number that is not above it is its magnitude. Assumes nothing.
-use Rattle.std.proofs.Common.{◌≡◌, ℕ, zero, suc, ◌+◌, ◌-◌, ◌*◌, true, false, T, ℤ, pos, negsuc, refl, ap, ◌∙◌, true≢false, zero-lt-suc, mul-pos, arith, eqb→eq, pow_mono, ltb-false, le-ltb}
+use Rattle.std.proofs.Common.{◌≡◌, ℕ, zero, suc, ◌+◌, ◌-◌, ◌*◌, true, false, T, ℤ, pos, negsuc, refl, ap, ◌∙◌}
+use Rattle.std.proofs.Common.{true≢false, zero-lt-suc, mul-pos, arith, eqb→eq, pow_mono, ltb-false, le-ltb}
 use denote.Floats.{passes}
 use lib.Ieee.{Float, nan, inf, fin, binary64, up, down, fits, of_bits, round, sum, add, sub, neg, lt}
 use lib.Ieee.Fits.{down_pos, up_pos}

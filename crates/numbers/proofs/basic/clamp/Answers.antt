@@ -10,8 +10,8 @@ returns-then-x c = rw c.if-x.true
 
 pub returns-then-x-2 : goal.returns-then-x-2
 unfolding clamped decimal of_bits
-returns-then-x-2 c = let c1 = c in rw (c1.if-x.false, c.if-x-2.true)
+returns-then-x-2 c = rw (c.if-x.false, c.if-x-2.true)
 
 pub returns : goal.returns
 unfolding clamped decimal of_bits
-returns c = let c1 = c in rw (c1.if-x.false, c.if-x-2.false)
+returns c = rw (c.if-x.false, c.if-x-2.false)

@@ -16,4 +16,5 @@ pub float_from_bits-result : goal.float_from_bits-result
 float_from_bits-result c = rw (nan_bits_above, le-ltb _ _ c.if-bits-gt-INFINITY.false) tt
 
 pub returns-then-bits-gt-INFINITY : goal.returns-then-bits-gt-INFINITY
-returns-then-bits-gt-INFINITY c = only_nan _ (rw (← nan_bits_is, nan_bits_above) (lt-ltb _ _ c.if-bits-gt-INFINITY.true))
+returns-then-bits-gt-INFINITY c =
+    only_nan _ (rw (← nan_bits_is, nan_bits_above) (lt-ltb _ _ c.if-bits-gt-INFINITY.true))

@@ -1,6 +1,8 @@
 -- `numbers::root::digit_by_digit` meets its contract. The invariant: after some number t of turns, r is the root of the
 -- digits of m * 2 ^ (2 * t) that have left the register a; the measure falls, as r grows at each turn. Assumes nothing.
-use Rattle.std.proofs.Common.{◌≡◌, ℕ, zero, suc, ◌+◌, ◌*◌, ◌/◌, ◌^◌, ◌<◌, ◌≤◌, mul-le-mul_right, mul-le-mul, mul-lt-mul_of_pos_right, mul-pos, lt_of_not-le, le-mul_of_pos_right, arith, pow_pos, pow_mono}
+use Rattle.std.proofs.Common.{◌≡◌, ℕ, zero, suc, ◌+◌, ◌*◌, ◌/◌, ◌^◌, ◌<◌, ◌≤◌, mul-le-mul_right, mul-le-mul}
+use Rattle.std.proofs.Common.{mul-lt-mul_of_pos_right, mul-pos, lt_of_not-le, le-mul_of_pos_right, arith, pow_pos}
+use Rattle.std.proofs.Common.{pow_mono}
 use native.Mathlib.Nat.{pow-succ'}
 use Rattle.numbers.specs.Parts.{Near}
 use Rattle.numbers.proofs.root.digit_by_digit.Invariants.{Digits}

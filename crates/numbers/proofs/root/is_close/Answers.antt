@@ -31,20 +31,18 @@ overflow_mul-a-2 c = omega (arith, squared c.args.g (omega arith))
 
 pub returns : goal.returns
 returns c e =
-    let k = c in
-    let start = k in
-    let m = start.args.m in
-    let g = start.args.g in
+    let m = c.args.m in
+    let g = c.args.g in
     let a = g / 2 ^ 21 in
     let b = g % 2 ^ 21 in
-    let d = k.wrapping_sub_u64-d.result in
+    let d = c.wrapping_sub_u64-d.result in
     let z = c.wrapping_add_u64.result in
     let l = ltb-true z (2 ^ 16) e in
     let r = squared g (omega arith) in
     let least : 2 ^ 62 ≤ a * a = let i : 2 ^ 31 ≤ a = omega arith in mul-le-mul i i in
-    let x = raised (a * b) d k.wrapping_sub_u64-off.result z r.cross k.wrapping_sub_u64-off.ensures.value
+    let x = raised (a * b) d c.wrapping_sub_u64-off.result z r.cross c.wrapping_sub_u64-off.ensures.value
     c.wrapping_add_u64.ensures.value l in
-    let y = unwrapped m (a * a) d (a * b) z (omega arith) (omega (arith, start.ranges)) least r.upper r.cross l x
-    k.wrapping_sub_u64-d.ensures.value in
+    let y = unwrapped m (a * a) d (a * b) z (omega arith) (omega (arith, c.ranges)) least r.upper r.cross l x
+    c.wrapping_sub_u64-d.ensures.value in
     let n = near m (g * g) (a * a) (a * b) (b * b) z r.whole y r.lower l in
     (omega arith, omega arith, n.0, n.1)

@@ -1,6 +1,7 @@
 -- `numbers::root::near_one` meets its contract: b is j * 2 or j * 2 + 1 units in the last place above 1, or as many
 -- below it, where they are half as large, and j * j is small beside 2 ^ 52. Assumes nothing.
-use Rattle.std.proofs.Common.{◌≡◌, ℕ, ◌+◌, ◌-◌, ◌*◌, ◌/◌, ◌%◌, ◌^◌, ◌<◌, ◌≤◌, refl, ap, ◌∙◌, mul-le-mul, mul-le-mul_left, lt_of_not-le, arith}
+use Rattle.std.proofs.Common.{◌≡◌, ℕ, ◌+◌, ◌-◌, ◌*◌, ◌/◌, ◌%◌, ◌^◌, ◌<◌, ◌≤◌, refl, ap, ◌∙◌, mul-le-mul}
+use Rattle.std.proofs.Common.{mul-le-mul_left, lt_of_not-le, arith}
 use native.Mathlib.Decide.{dec_le}
 use lib.Ieee.{binary64, of_bits}
 use Rattle.numbers.specs.Root.{root_units}

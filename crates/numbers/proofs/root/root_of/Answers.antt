@@ -1,6 +1,7 @@
 -- `numbers::root::root_of` meets its contract: each answer has the pattern of the root, as root-bits of `proofs/Scale`
 -- tells it from the nearest whole number. Assumes nothing.
-use Rattle.std.proofs.Common.{◌≡◌, ℕ, zero, suc, ◌+◌, ◌-◌, ◌*◌, ◌/◌, ◌%◌, ◌^◌, ◌<◌, ◌≤◌, not, T, sym, refl, ◌∙◌, mod-eq_of_lt, arith}
+use Rattle.std.proofs.Common.{◌≡◌, ℕ, zero, suc, ◌+◌, ◌-◌, ◌*◌, ◌/◌, ◌%◌, ◌^◌, ◌<◌, ◌≤◌, not, T, sym, refl, ◌∙◌}
+use Rattle.std.proofs.Common.{mod-eq_of_lt, arith}
 use denote.Floats.{passes}
 use lib.Ieee.{binary64, of_bits, to_bits, nan_bits}
 use lib.Ieee.Bits.{of_bits-to_bits}
@@ -11,7 +12,8 @@ use Rattle.numbers.proofs.Roots.{short}
 use Rattle.numbers.proofs.Signs.{positive, no_nan}
 use Rattle.numbers.proofs.Scale.{Scale, normal_scale, root_bits, no_nan_bits}
 use Rattle.numbers.proofs.root.root_of.Goals as goal
-use Rattle.numbers.proofs.root.root_of.Goals.{After-wrapping_sub_u64-change, Start, Then-is_close, Then-wrapping_sub_u64-ge-BELOW_ZERO}
+use Rattle.numbers.proofs.root.root_of.Goals.{After-wrapping_sub_u64-change, Start, Then-is_close}
+use Rattle.numbers.proofs.root.root_of.Goals.{Then-wrapping_sub_u64-ge-BELOW_ZERO}
 
 -- twice x, or x itself
 doubled : (x p q : ℕ) → p + q ≡ 1 → x * 2 ^ (11 - p) ≡ x * (q + 1) * 1024

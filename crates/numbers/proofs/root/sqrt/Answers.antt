@@ -1,5 +1,6 @@
 -- `numbers::root::sqrt` meets its contract: by the sign of x, and above zero by its pattern. Assumes nothing.
-use Rattle.std.proofs.Common.{◌≡◌, zero, suc, ◌*◌, ◌<◌, ◌≤◌, true, false, ◌||◌, T, eqb, sym, refl, ap, ◌∙◌, true≢false, zero-lt-suc, mul-pos, zero-mul, arith, ltb-false, eqb-true}
+use Rattle.std.proofs.Common.{◌≡◌, zero, suc, ◌*◌, ◌<◌, ◌≤◌, true, false, ◌||◌, T, eqb, sym, refl, ap, ◌∙◌, true≢false}
+use Rattle.std.proofs.Common.{zero-lt-suc, mul-pos, zero-mul, arith, ltb-false, eqb-true}
 use Prim.Native.Nat.compare
 use mathlib.Core.Bool.{beq, false≢true, and-eq-true_iff}
 use denote.Floats.{passes}

@@ -30,10 +30,9 @@ overflow_mul-q c = omega arith
 pub loop-over-preserved : goal.loop-over-preserved
 loop-over-preserved c =
     let l = c.loop-over in
-    let start = c in
-    let m = start.args.m in
+    let m = c.args.m in
     let e : l.q * (l.q + 1) + 2 ^ 64 ≡ m * 2 ^ 42 + l.over = l.invariant.4.1 c.loop-over-test.true in
-    let s = short m l.q l.over (omega (arith, start.ranges)) (omega arith) e in
+    let s = short m l.q l.over (omega (arith, c.ranges)) (omega arith) e in
     let a = up m l.q l.over (omega arith) (omega arith) s e in
     (omega arith, omega arith, omega arith, omega arith, rw c.wrapping_add_u64-over.ensures.value a, omega arith)
 

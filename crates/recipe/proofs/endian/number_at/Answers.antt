@@ -9,4 +9,4 @@ u64_at-requires c = search rules
 
 pub returns : goal.returns
 unfolding number_at
-returns c = let c1 = c in rw (← c1.u64_at.ensures, ← c.from_bits.ensures)
+returns c = rw (← c.u64_at.ensures, ← c.from_bits.ensures)

@@ -11,20 +11,17 @@ loop-left-init c = (search rules, refl)
 
 pub returns-then-not-finite_at : goal.returns-then-not-finite_at
 returns-then-not-finite_at c =
-    let l = c in
-    let s = l.args.s.now in
+    let s = c.args.s.now in
     let e = ap not (sym c.finite_at.ensures ∙ c.if-not-finite_at.true) in
-    sym (finite_stop s l.loop-left.place l.loop-left.left (search rules) e) ∙ l.loop-left.invariant.1
+    sym (finite_stop s c.loop-left.place c.loop-left.left (search rules) e) ∙ c.loop-left.invariant.1
 
 pub loop-left-preserved : goal.loop-left-preserved
 loop-left-preserved c =
-    let l = c in
-    let s = l.args.s.now in
+    let s = c.args.s.now in
     let e = ap not (sym c.finite_at.ensures ∙ c.if-not-finite_at.false) in
-    (omega arith, sym (finite_turn s l.loop-left.place l.loop-left.left (search rules) e) ∙ l.loop-left.invariant.1)
+    (omega arith, sym (finite_turn s c.loop-left.place c.loop-left.left (search rules) e) ∙ c.loop-left.invariant.1)
 
 pub returns : goal.returns
 returns c =
-    let l = c in
-    let s = l.args.s.now in
-    sym (finite_end s l.loop-left.place l.loop-left.left (search rules)) ∙ l.loop-left.invariant.1
+    let s = c.args.s.now in
+    sym (finite_end s c.loop-left.place c.loop-left.left (search rules)) ∙ c.loop-left.invariant.1

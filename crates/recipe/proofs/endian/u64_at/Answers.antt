@@ -25,4 +25,4 @@ overflow_add-result c = search rules
 
 pub returns : goal.returns
 unfolding u64_at
-returns c = let c1 = c in rw (← c1.u32_at-low.ensures.0, ← c.u32_at-high.ensures.0)
+returns c = rw (← c.u32_at-low.ensures.0, ← c.u32_at-high.ensures.0)

@@ -16,14 +16,12 @@ loop-i-init c = (zero-le, refl)
 
 pub loop-i-preserved : goal.loop-i-preserved
 loop-i-preserved c =
-    let l = c in
-    (omega arith, rw c.number_at.ensures (term_more _ _ _ _ (omega arith) l.loop-i.invariant.1))
+    (omega arith, rw c.number_at.ensures (term_more _ _ _ _ (omega arith) c.loop-i.invariant.1))
 
 pub returns : goal.returns
 unfolding coefficients_at
 returns c =
-    let l = c in
-    let a = l.args in
-    let e : l.loop-i.i ≡ a.count = omega arith in
-    let all = l.loop-i.invariant.1 ∙ ap (λ (n : ℕ). (coefficients_at a.s.now a.at n).values) e in
+    let a = c.args in
+    let e : c.loop-i.i ≡ a.count = omega arith in
+    let all = c.loop-i.invariant.1 ∙ ap (λ (n : ℕ). (coefficients_at a.s.now a.at n).values) e in
     ap (λ (v : List Float). record { count = a.count; values = v }) all

@@ -15,8 +15,10 @@ returns-then-kind-eq-KIND_EVEN_ASPHERE c = rw (eq-eqb _ _ c.if-kind-eq-KIND_EVEN
 
 pub returns-then-kind-eq-KIND_ODD_ASPHERE : goal.returns-then-kind-eq-KIND_ODD_ASPHERE
 unfolding even_count odd_count
-returns-then-kind-eq-KIND_ODD_ASPHERE c = let c1 = c in rw (ne_eqb _ _ c1.if-kind-eq-KIND_EVEN_ASPHERE.false, eq-eqb _ _ c.if-kind-eq-KIND_ODD_ASPHERE.true)
+returns-then-kind-eq-KIND_ODD_ASPHERE c =
+    rw (ne_eqb _ _ c.if-kind-eq-KIND_EVEN_ASPHERE.false, eq-eqb _ _ c.if-kind-eq-KIND_ODD_ASPHERE.true)
 
 pub returns-else-kind-eq-KIND_ODD_ASPHERE : goal.returns-else-kind-eq-KIND_ODD_ASPHERE
 unfolding even_count odd_count
-returns-else-kind-eq-KIND_ODD_ASPHERE c = let c1 = c in rw (ne_eqb _ _ c1.if-kind-eq-KIND_EVEN_ASPHERE.false, ne_eqb _ _ c.if-kind-eq-KIND_ODD_ASPHERE.false)
+returns-else-kind-eq-KIND_ODD_ASPHERE c =
+    rw (ne_eqb _ _ c.if-kind-eq-KIND_EVEN_ASPHERE.false, ne_eqb _ _ c.if-kind-eq-KIND_ODD_ASPHERE.false)

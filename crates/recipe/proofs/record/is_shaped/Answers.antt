@@ -15,7 +15,8 @@ u16_at-requires c = let f = formed _ _ (sym c.is_formed.ensures ∙ c.if-is_form
 
 pub overflow_add-result-then-is_formed : goal.overflow_add-result-then-is_formed
 unfolding shaped_at
-overflow_add-result-then-is_formed c = let f = formed _ _ (sym c.is_formed.ensures ∙ c.if-is_formed.true) refl refl in omega arith
+overflow_add-result-then-is_formed c =
+    let f = formed _ _ (sym c.is_formed.ensures ∙ c.if-is_formed.true) refl refl in omega arith
 
 pub returns-then-is_formed : goal.returns-then-is_formed
 unfolding shaped_at

@@ -9,16 +9,23 @@ returns-then-kind-eq-KIND_CONIC c = rw (eq-eqb _ _ c.if-kind-eq-KIND_CONIC.true)
 
 pub returns-then-kind-eq-KIND_EVEN_ASPHERE : goal.returns-then-kind-eq-KIND_EVEN_ASPHERE
 unfolding length_fits
-returns-then-kind-eq-KIND_EVEN_ASPHERE c = let c1 = c in rw (ne_eqb _ _ c1.if-kind-eq-KIND_CONIC.false, eq-eqb _ _ c.if-kind-eq-KIND_EVEN_ASPHERE.true)
+returns-then-kind-eq-KIND_EVEN_ASPHERE c =
+    rw (ne_eqb _ _ c.if-kind-eq-KIND_CONIC.false, eq-eqb _ _ c.if-kind-eq-KIND_EVEN_ASPHERE.true)
 
 pub returns-then-kind-eq-KIND_BICONIC : goal.returns-then-kind-eq-KIND_BICONIC
 unfolding length_fits
 returns-then-kind-eq-KIND_BICONIC c =
-    let c1 = c in let c2 = c1 in
-    rw (ne_eqb _ _ c2.if-kind-eq-KIND_CONIC.false, ne_eqb _ _ c1.if-kind-eq-KIND_EVEN_ASPHERE.false, eq-eqb _ _ c.if-kind-eq-KIND_BICONIC.true)
+    rw (
+      ne_eqb _ _ c.if-kind-eq-KIND_CONIC.false,
+      ne_eqb _ _ c.if-kind-eq-KIND_EVEN_ASPHERE.false,
+      eq-eqb _ _ c.if-kind-eq-KIND_BICONIC.true,
+    )
 
 pub returns : goal.returns
 unfolding length_fits
 returns c =
-    let c1 = c in let c2 = c1 in
-    rw (ne_eqb _ _ c2.if-kind-eq-KIND_CONIC.false, ne_eqb _ _ c1.if-kind-eq-KIND_EVEN_ASPHERE.false, ne_eqb _ _ c.if-kind-eq-KIND_BICONIC.false)
+    rw (
+      ne_eqb _ _ c.if-kind-eq-KIND_CONIC.false,
+      ne_eqb _ _ c.if-kind-eq-KIND_EVEN_ASPHERE.false,
+      ne_eqb _ _ c.if-kind-eq-KIND_BICONIC.false,
+    )

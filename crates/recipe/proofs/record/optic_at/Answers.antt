@@ -27,7 +27,8 @@ overflow_add-first c = let f = shape _ _ c.requires c.u16_at-len.ensures.0 c.u16
 
 pub coefficients_at-requires : goal.coefficients_at-requires
 unfolding optic_at
-coefficients_at-requires c = let f = shape _ _ c.requires c.u16_at-len.ensures.0 c.u16_at-whole.ensures.0 in (omega arith, omega arith)
+coefficients_at-requires c =
+    let f = shape _ _ c.requires c.u16_at-len.ensures.0 c.u16_at-whole.ensures.0 in (omega arith, omega arith)
 
 pub overflow_mul-even : goal.overflow_mul-even
 unfolding optic_at
@@ -39,7 +40,8 @@ overflow_add-first-2 c = let f = shape _ _ c.requires c.u16_at-len.ensures.0 c.u
 
 pub odd_coefficients_at-requires : goal.odd_coefficients_at-requires
 unfolding optic_at
-odd_coefficients_at-requires c = let f = shape _ _ c.requires c.u16_at-len.ensures.0 c.u16_at-whole.ensures.0 in omega arith
+odd_coefficients_at-requires c =
+    let f = shape _ _ c.requires c.u16_at-len.ensures.0 c.u16_at-whole.ensures.0 in omega arith
 
 pub slot-requires : goal.slot-requires
 unfolding optic_at

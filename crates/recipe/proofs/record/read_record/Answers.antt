@@ -11,11 +11,13 @@ u16_at-len-requires c = let f = shape _ _ (sym c.is_shaped.ensures ∙ c.if-is_s
 
 pub overflow_add-result : goal.overflow_add-result
 unfolding read_at
-overflow_add-result c = let f = shape _ _ (sym c.is_shaped.ensures ∙ c.if-is_shaped.true) c.u16_at-len.ensures.0 refl in omega arith
+overflow_add-result c =
+    let f = shape _ _ (sym c.is_shaped.ensures ∙ c.if-is_shaped.true) c.u16_at-len.ensures.0 refl in omega arith
 
 pub overflow_add-result-then-is_shaped : goal.overflow_add-result-then-is_shaped
 unfolding read_at
-overflow_add-result-then-is_shaped c = let f = shape _ _ (sym c.is_shaped.ensures ∙ c.if-is_shaped.true) c.u16_at-len.ensures.0 refl in omega arith
+overflow_add-result-then-is_shaped c =
+    let f = shape _ _ (sym c.is_shaped.ensures ∙ c.if-is_shaped.true) c.u16_at-len.ensures.0 refl in omega arith
 
 pub optic_at-requires : goal.optic_at-requires
 unfolding read_at
@@ -23,7 +25,8 @@ optic_at-requires c = (sym c.is_shaped.ensures ∙ c.if-is_shaped.true)
 
 pub returns-then-is_shaped : goal.returns-then-is_shaped
 unfolding read_at
-returns-then-is_shaped c = rw ((sym c.is_shaped.ensures ∙ c.if-is_shaped.true), ← c.u16_at-len.ensures.0, ← c.optic_at.ensures)
+returns-then-is_shaped c =
+    rw ((sym c.is_shaped.ensures ∙ c.if-is_shaped.true), ← c.u16_at-len.ensures.0, ← c.optic_at.ensures)
 
 pub returns : goal.returns
 unfolding read_at

@@ -9,8 +9,10 @@ returns-then-kind-eq-KIND_BICONIC c = rw (eq-eqb _ _ c.if-kind-eq-KIND_BICONIC.t
 
 pub returns-then-kind-eq-KIND_TOROID : goal.returns-then-kind-eq-KIND_TOROID
 unfolding semi_slot
-returns-then-kind-eq-KIND_TOROID c = let c1 = c in rw (ne_eqb _ _ c1.if-kind-eq-KIND_BICONIC.false, eq-eqb _ _ c.if-kind-eq-KIND_TOROID.true)
+returns-then-kind-eq-KIND_TOROID c =
+    rw (ne_eqb _ _ c.if-kind-eq-KIND_BICONIC.false, eq-eqb _ _ c.if-kind-eq-KIND_TOROID.true)
 
 pub returns-else-kind-eq-KIND_TOROID : goal.returns-else-kind-eq-KIND_TOROID
 unfolding semi_slot
-returns-else-kind-eq-KIND_TOROID c = let c1 = c in rw (ne_eqb _ _ c1.if-kind-eq-KIND_BICONIC.false, ne_eqb _ _ c.if-kind-eq-KIND_TOROID.false)
+returns-else-kind-eq-KIND_TOROID c =
+    rw (ne_eqb _ _ c.if-kind-eq-KIND_BICONIC.false, ne_eqb _ _ c.if-kind-eq-KIND_TOROID.false)

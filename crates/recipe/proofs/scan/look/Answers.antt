@@ -22,19 +22,27 @@ u16_at-len-requires c = let f = shape _ _ (sym c.is_shaped.ensures ∙ c.if-not-
 
 pub overflow_add-at : goal.overflow_add-at
 unfolding seen_of record_at optic_at decimal of_bits
-overflow_add-at c = let f = shape _ _ (sym c.is_shaped.ensures ∙ c.if-not-is_shaped.false) c.u16_at-len.ensures.0 refl in omega arith
+overflow_add-at c =
+    let f = shape _ _ (sym c.is_shaped.ensures ∙ c.if-not-is_shaped.false) c.u16_at-len.ensures.0 refl in omega arith
 
 pub u16_at-kind-requires : goal.u16_at-kind-requires
 unfolding seen_of record_at optic_at decimal of_bits
-u16_at-kind-requires c = let f = shape _ _ (sym c.is_shaped.ensures ∙ c.if-not-is_shaped.false) c.u16_at-len.ensures.0 refl in omega arith
+u16_at-kind-requires c =
+    let f = shape _ _ (sym c.is_shaped.ensures ∙ c.if-not-is_shaped.false) c.u16_at-len.ensures.0 refl in omega arith
 
 pub overflow_add-at-2 : goal.overflow_add-at-2
 unfolding seen_of record_at optic_at decimal of_bits
-overflow_add-at-2 c = let f = shape _ _ (sym c.is_shaped.ensures ∙ c.if-not-is_shaped.false) c.u16_at-len.ensures.0 c.u16_at-kind.ensures.0 in omega arith
+overflow_add-at-2 c =
+    let f = shape _ _ (sym c.is_shaped.ensures ∙ c.if-not-is_shaped.false) c.u16_at-len.ensures.0
+    c.u16_at-kind.ensures.0 in
+    omega arith
 
 pub numbers_finite-requires : goal.numbers_finite-requires
 unfolding seen_of record_at optic_at decimal of_bits
-numbers_finite-requires c = let f = shape _ _ (sym c.is_shaped.ensures ∙ c.if-not-is_shaped.false) c.u16_at-len.ensures.0 c.u16_at-kind.ensures.0 in omega arith
+numbers_finite-requires c =
+    let f = shape _ _ (sym c.is_shaped.ensures ∙ c.if-not-is_shaped.false) c.u16_at-len.ensures.0
+    c.u16_at-kind.ensures.0 in
+    omega arith
 
 pub returns-then-not-numbers_finite : goal.returns-then-not-numbers_finite
 unfolding seen_of record_at optic_at decimal of_bits
@@ -49,7 +57,10 @@ returns-then-not-numbers_finite c =
 
 pub slot-requires : goal.slot-requires
 unfolding seen_of record_at optic_at decimal of_bits
-slot-requires c = let f = shape _ _ (sym c.is_shaped.ensures ∙ c.if-not-is_shaped.false) c.u16_at-len.ensures.0 c.u16_at-kind.ensures.0 in omega arith
+slot-requires c =
+    let f = shape _ _ (sym c.is_shaped.ensures ∙ c.if-not-is_shaped.false) c.u16_at-len.ensures.0
+    c.u16_at-kind.ensures.0 in
+    omega arith
 
 pub returns-then-slot : goal.returns-then-slot
 unfolding seen_of record_at optic_at decimal of_bits
@@ -70,7 +81,10 @@ returns-then-slot c =
 
 pub slot-requires-2 : goal.slot-requires-2
 unfolding seen_of record_at optic_at decimal of_bits
-slot-requires-2 c = let f = shape _ _ (sym c.is_shaped.ensures ∙ c.if-not-is_shaped.false) c.u16_at-len.ensures.0 c.u16_at-kind.ensures.0 in omega arith
+slot-requires-2 c =
+    let f = shape _ _ (sym c.is_shaped.ensures ∙ c.if-not-is_shaped.false) c.u16_at-len.ensures.0
+    c.u16_at-kind.ensures.0 in
+    omega arith
 
 pub returns-then-slot-2 : goal.returns-then-slot-2
 unfolding seen_of record_at optic_at decimal of_bits
@@ -80,22 +94,36 @@ returns-then-slot-2 c =
     rw (← c.u16_at-len.ensures.0, ← c.numbers_finite.ensures) (ap not c.if-not-numbers_finite.false) in
     let semi_is : let a = c.args in
     (slot_at a.s.now a.at (semi_slot (kind_at a.s.now a.at % 256)) <₆₄ 0f) ≡ false =
-    let r = c in
-    let slot = c in
-    rw (← r.u16_at-kind.ensures.0, ← slot.semi_slot.ensures, ← slot.slot.ensures) c.if-slot.false in
-    rw ((sym c.is_shaped.ensures ∙ c.if-not-is_shaped.false), finite_is, semi_is, ← c.slot-2.ensures, c.if-slot-2.true) c.unseen-then-slot-2.ensures
+    rw (← c.u16_at-kind.ensures.0, ← c.semi_slot.ensures, ← c.slot.ensures) c.if-slot.false in
+    rw (
+      (sym c.is_shaped.ensures ∙ c.if-not-is_shaped.false),
+      finite_is,
+      semi_is,
+      ← c.slot-2.ensures,
+      c.if-slot-2.true,
+    )
+    c.unseen-then-slot-2.ensures
 
 pub overflow_add-result : goal.overflow_add-result
 unfolding seen_of record_at optic_at decimal of_bits
-overflow_add-result c = let f = shape _ _ (sym c.is_shaped.ensures ∙ c.if-not-is_shaped.false) c.u16_at-len.ensures.0 c.u16_at-kind.ensures.0 in omega arith
+overflow_add-result c =
+    let f = shape _ _ (sym c.is_shaped.ensures ∙ c.if-not-is_shaped.false) c.u16_at-len.ensures.0
+    c.u16_at-kind.ensures.0 in
+    omega arith
 
 pub overflow_add-result-2 : goal.overflow_add-result-2
 unfolding seen_of record_at optic_at decimal of_bits
-overflow_add-result-2 c = let f = shape _ _ (sym c.is_shaped.ensures ∙ c.if-not-is_shaped.false) c.u16_at-len.ensures.0 c.u16_at-kind.ensures.0 in omega arith
+overflow_add-result-2 c =
+    let f = shape _ _ (sym c.is_shaped.ensures ∙ c.if-not-is_shaped.false) c.u16_at-len.ensures.0
+    c.u16_at-kind.ensures.0 in
+    omega arith
 
 pub kind_at-requires : goal.kind_at-requires
 unfolding seen_of record_at optic_at decimal of_bits
-kind_at-requires c = let f = shape _ _ (sym c.is_shaped.ensures ∙ c.if-not-is_shaped.false) c.u16_at-len.ensures.0 c.u16_at-kind.ensures.0 in omega arith
+kind_at-requires c =
+    let f = shape _ _ (sym c.is_shaped.ensures ∙ c.if-not-is_shaped.false) c.u16_at-len.ensures.0
+    c.u16_at-kind.ensures.0 in
+    omega arith
 
 pub returns : goal.returns
 unfolding seen_of record_at optic_at decimal of_bits
@@ -105,9 +133,7 @@ returns c =
     rw (← c.u16_at-len.ensures.0, ← c.numbers_finite.ensures) (ap not c.if-not-numbers_finite.false) in
     let semi_is : let a = c.args in
     (slot_at a.s.now a.at (semi_slot (kind_at a.s.now a.at % 256)) <₆₄ 0f) ≡ false =
-    let r = c in
-    let slot = c in
-    rw (← r.u16_at-kind.ensures.0, ← slot.semi_slot.ensures, ← slot.slot.ensures) c.if-slot.false in
+    rw (← c.u16_at-kind.ensures.0, ← c.semi_slot.ensures, ← c.slot.ensures) c.if-slot.false in
     let index_is : let a = c.args in
     (slot_at a.s.now a.at 1 ≤₆₄ 0f) ≡ false =
     rw (← c.slot-2.ensures) c.if-slot-2.false in

@@ -19,5 +19,4 @@ u16_at-requires-2 c = search rules
 pub returns : goal.returns
 unfolding is_source
 returns c =
-    let c1 = c in let c2 = c1 in
-    rw (le-leb _ _ c2.if-file-lt-SOURCE_BYTES.false, ← c1.u16_at.ensures.0, ← c.u16_at-2.ensures.0)
+    rw (le-leb _ _ c.if-file-lt-SOURCE_BYTES.false, ← c.u16_at.ensures.0, ← c.u16_at-2.ensures.0)

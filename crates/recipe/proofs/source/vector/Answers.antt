@@ -26,5 +26,4 @@ slot-requires-3 c = search rules
 pub returns : goal.returns
 unfolding vector_at
 returns c =
-    let c1 = c in let c2 = c1 in
-    rw (← c2.slot.ensures, ← c1.slot-2.ensures, ← c.slot-3.ensures)
+    rw (← c.slot.ensures, ← c.slot-2.ensures, ← c.slot-3.ensures)

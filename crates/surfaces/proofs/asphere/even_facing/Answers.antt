@@ -7,11 +7,9 @@ use Rattle.surfaces.proofs.asphere.even_facing.Goals as goal
 pub returns-then-norm-is_finite : goal.returns-then-norm-is_finite
 unfolding even_facing decimal of_bits
 returns-then-norm-is_finite c =
-    let c1 = c in let c2 = c1 in
-    rw (← c2.length_of-norm.ensures, ← c1.is_finite.ensures, c.if-norm-is_finite.true)
+    rw (← c.length_of-norm.ensures, ← c.is_finite.ensures, c.if-norm-is_finite.true)
 
 pub returns : goal.returns
 unfolding even_facing decimal of_bits
 returns c =
-    let c1 = c in let c2 = c1 in let c3 = c2 in
-    rw (← c3.length_of-norm.ensures, ← c2.is_finite.ensures, c1.if-norm-is_finite.false, ← c.facing.ensures)
+    rw (← c.length_of-norm.ensures, ← c.is_finite.ensures, c.if-norm-is_finite.false, ← c.facing.ensures)

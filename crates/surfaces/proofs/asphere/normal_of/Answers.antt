@@ -16,9 +16,8 @@ enum_known-m-in-Refused-1 c = search rules
 pub returns-in-Given : goal.returns-in-Given
 unfolding normal_of
 returns-in-Given c =
-    let c1 = c in let c3 = c1 in
-    rw (c3.in-Given.is, ← c1.length_of.ensures, ← c.facing.ensures)
+    rw (c.in-Given.is, ← c.length_of.ensures, ← c.facing.ensures)
 
 pub returns-in-Refused : goal.returns-in-Refused
 unfolding normal_of
-returns-in-Refused c = let c1 = c in rw (c1.in-Refused.is, never_done)
+returns-in-Refused c = rw (c.in-Refused.is, never_done)

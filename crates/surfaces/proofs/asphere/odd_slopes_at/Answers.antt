@@ -18,15 +18,14 @@ enum_told-1 c = search rules
 pub returns-in-Given : goal.returns-in-Given
 unfolding odd_slopes_at decimal of_bits
 returns-in-Given c =
-    let c1 = c in let c3 = c1 in let c5 = c3 in
     rw (
       odd_slope_lem _ _ _ _,
-      ← c5.base_root.ensures,
-      c3.in-Given.is,
-      ← c1.odd_slope_from-d.ensures,
+      ← c.base_root.ensures,
+      c.in-Given.is,
+      ← c.odd_slope_from-d.ensures,
       ← c.radial_slopes.ensures,
     )
 
 pub returns-in-Outside : goal.returns-in-Outside
 unfolding odd_slopes_at decimal of_bits
-returns-in-Outside c = let c2 = c in rw (odd_slope_lem _ _ _ _, ← c2.base_root.ensures, c.in-Outside.is)
+returns-in-Outside c = rw (odd_slope_lem _ _ _ _, ← c.base_root.ensures, c.in-Outside.is)

@@ -4,4 +4,4 @@ use Rattle.surfaces.proofs.Depths.{even_sag_lem}
 use Rattle.surfaces.proofs.asphere.raw_even_sag.Goals as goal
 
 pub returns : goal.returns
-returns c = let c1 = c in rw (← even_sag_lem _ _ _ _, ← c1.even_depth.ensures, ← c.sag_of.ensures)
+returns c = rw (← even_sag_lem _ _ _ _, ← c.even_depth.ensures, ← c.sag_of.ensures)

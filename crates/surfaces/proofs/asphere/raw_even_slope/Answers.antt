@@ -8,7 +8,7 @@ use Rattle.surfaces.proofs.asphere.raw_even_slope.Goals as goal
 
 pub returns-then-is_finite-r : goal.returns-then-is_finite-r
 unfolding decimal of_bits
-returns-then-is_finite-r c = let c1 = c in rw (even_slope_lem _ _ _ _, ← c1.is_finite.ensures, c.if-is_finite-r.true)
+returns-then-is_finite-r c = rw (even_slope_lem _ _ _ _, ← c.is_finite.ensures, c.if-is_finite-r.true)
 
 pub enum_known-s : goal.enum_known-s
 unfolding decimal of_bits
@@ -21,18 +21,16 @@ enum_told-1 c = search rules
 pub returns-in-Given : goal.returns-in-Given
 unfolding decimal of_bits
 returns-in-Given c =
-    let c2 = c in let c4 = c2 in let c5 = c4 in let c6 = c5 in
     rw (
       even_slope_lem _ _ _ _,
-      ← c6.is_finite.ensures,
-      c5.if-is_finite-r.false,
-      ← c4.base_root.ensures,
-      c2.in-Given.is,
+      ← c.is_finite.ensures,
+      c.if-is_finite-r.false,
+      ← c.base_root.ensures,
+      c.in-Given.is,
       ← c.even_slope_from.ensures,
     )
 
 pub returns-in-Outside : goal.returns-in-Outside
 unfolding decimal of_bits
 returns-in-Outside c =
-    let c2 = c in let c3 = c2 in let c4 = c3 in
-    rw (even_slope_lem _ _ _ _, ← c4.is_finite.ensures, c3.if-is_finite-r.false, ← c2.base_root.ensures, c.in-Outside.is)
+    rw (even_slope_lem _ _ _ _, ← c.is_finite.ensures, c.if-is_finite-r.false, ← c.base_root.ensures, c.in-Outside.is)

@@ -4,4 +4,4 @@ use Rattle.surfaces.proofs.Depths.{odd_sag_lem}
 use Rattle.surfaces.proofs.asphere.raw_odd_sag.Goals as goal
 
 pub returns : goal.returns
-returns c = let c1 = c in rw (← odd_sag_lem _ _ _ _, ← c1.odd_depth.ensures, ← c.sag_of.ensures)
+returns c = rw (← odd_sag_lem _ _ _ _, ← c.odd_depth.ensures, ← c.sag_of.ensures)

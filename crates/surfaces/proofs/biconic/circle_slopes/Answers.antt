@@ -11,12 +11,11 @@ returns-then-radicand c = rw c.if-radicand.true
 pub returns : goal.returns
 unfolding circle_slopes decimal of_bits
 returns c =
-    let c1 = c in let c2 = c1 in let c3 = c2 in let c4 = c3 in let c5 = c4 in
     rw (
-      c5.if-radicand.false,
-      ← c4.slope_radicand.ensures,
-      ← c3.sqrt.ensures,
-      ← c2.base_curve_slope-d.ensures,
-      ← c1.sqrt-2.ensures,
+      c.if-radicand.false,
+      ← c.slope_radicand.ensures,
+      ← c.sqrt.ensures,
+      ← c.base_curve_slope-d.ensures,
+      ← c.sqrt-2.ensures,
       ← c.circle_slopes_at.ensures,
     )

@@ -4,4 +4,4 @@ use Rattle.surfaces.proofs.biconic.raw_biconic_normal.Goals as goal
 
 pub returns : goal.returns
 unfolding biconic_normal
-returns c = let c1 = c in rw (← c1.raw_biconic_slopes.ensures, ← c.normal_of.ensures)
+returns c = rw (← c.raw_biconic_slopes.ensures, ← c.normal_of.ensures)

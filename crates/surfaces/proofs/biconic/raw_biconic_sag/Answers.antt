@@ -4,4 +4,4 @@ use Rattle.surfaces.proofs.Depths.{biconic_sag_lem}
 use Rattle.surfaces.proofs.biconic.raw_biconic_sag.Goals as goal
 
 pub returns : goal.returns
-returns c = let c1 = c in rw (← biconic_sag_lem _ _ _ _ _ _, ← c1.biconic_depth.ensures, ← c.sag_of.ensures)
+returns c = rw (← biconic_sag_lem _ _ _ _ _ _, ← c.biconic_depth.ensures, ← c.sag_of.ensures)

@@ -4,4 +4,4 @@ use Rattle.surfaces.proofs.Depths.{toroid_sag_lem}
 use Rattle.surfaces.proofs.biconic.raw_toroid_sag.Goals as goal
 
 pub returns : goal.returns
-returns c = let c1 = c in rw (← toroid_sag_lem _ _ _ _ _, ← c1.toroid_depth.ensures, ← c.sag_of.ensures)
+returns c = rw (← toroid_sag_lem _ _ _ _ _, ← c.toroid_depth.ensures, ← c.sag_of.ensures)

@@ -14,17 +14,15 @@ enum_told-1 c = search rules
 pub returns-in-Given : goal.returns-in-Given
 unfolding toroid_slopes
 returns-in-Given c =
-    let c1 = c in let c3 = c1 in let c5 = c3 in let c6 = c5 in
     rw (
-      ← c6.base_curve_radicand.ensures,
-      ← c5.edge_root.ensures,
-      c3.in-Given.is,
-      ← c1.base_curve_sag.ensures,
+      ← c.base_curve_radicand.ensures,
+      ← c.edge_root.ensures,
+      c.in-Given.is,
+      ← c.base_curve_sag.ensures,
       ← c.circle_slopes.ensures,
     )
 
 pub returns-in-Outside : goal.returns-in-Outside
 unfolding toroid_slopes
 returns-in-Outside c =
-    let c2 = c in let c3 = c2 in
-    rw (← c3.base_curve_radicand.ensures, ← c2.edge_root.ensures, c.in-Outside.is)
+    rw (← c.base_curve_radicand.ensures, ← c.edge_root.ensures, c.in-Outside.is)

@@ -16,24 +16,22 @@ enum_told-1 c = search rules
 pub returns-then-is_finite-all_finite : goal.returns-then-is_finite-all_finite
 unfolding hit_finite
 returns-then-is_finite-all_finite c =
-    let c1 = c in let c2 = c1 in let c3 = c2 in let c7 = c3 in
     rw (
-      c7.in-Given.is,
-      ← c3.is_finite.ensures,
-      ← c2.all_finite.ensures,
-      ← c1.all_finite-in-Given.ensures,
+      c.in-Given.is,
+      ← c.is_finite.ensures,
+      ← c.all_finite.ensures,
+      ← c.all_finite-in-Given.ensures,
       c.if-is_finite-all_finite.true,
     )
 
 pub returns-else-is_finite-all_finite : goal.returns-else-is_finite-all_finite
 unfolding hit_finite
 returns-else-is_finite-all_finite c =
-    let c1 = c in let c2 = c1 in let c3 = c2 in let c7 = c3 in
     rw (
-      c7.in-Given.is,
-      ← c3.is_finite.ensures,
-      ← c2.all_finite.ensures,
-      ← c1.all_finite-in-Given.ensures,
+      c.in-Given.is,
+      ← c.is_finite.ensures,
+      ← c.all_finite.ensures,
+      ← c.all_finite-in-Given.ensures,
       c.if-is_finite-all_finite.false,
     )
 

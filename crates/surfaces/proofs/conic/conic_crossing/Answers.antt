@@ -7,11 +7,9 @@ use Rattle.surfaces.proofs.conic.conic_crossing.Goals as goal
 pub returns-then-abs : goal.returns-then-abs
 unfolding conic_crossing decimal of_bits
 returns-then-abs c =
-    let c1 = c in let c2 = c1 in
-    rw (← c2.abs.ensures, c1.if-abs.true, ← c.plane_crossing.ensures)
+    rw (← c.abs.ensures, c.if-abs.true, ← c.plane_crossing.ensures)
 
 pub returns-else-abs : goal.returns-else-abs
 unfolding conic_crossing decimal of_bits
 returns-else-abs c =
-    let c1 = c in let c2 = c1 in
-    rw (← c2.abs.ensures, c1.if-abs.false, ← c.curved_crossing.ensures)
+    rw (← c.abs.ensures, c.if-abs.false, ← c.curved_crossing.ensures)

@@ -4,4 +4,4 @@ use Rattle.surfaces.proofs.conic.conic_sag.Goals as goal
 
 pub returns : goal.returns
 unfolding conic_sag_answer
-returns c = let c1 = c in rw (← c1.raw_conic_sag.ensures, ← c.checked_sag.ensures)
+returns c = rw (← c.raw_conic_sag.ensures, ← c.checked_sag.ensures)

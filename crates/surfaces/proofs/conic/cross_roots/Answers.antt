@@ -30,27 +30,23 @@ enum_told-in-Dropped-y-2 c = search rules
 pub returns-then-u-t : goal.returns-then-u-t
 unfolding first_on ascending
 returns-then-u-t c =
-    let c1 = c in let c3 = c1 in let c6 = c3 in
-    rw (c6.in-Kept.is, c3.in-Kept-y.is, c1.if-u-t.true, ← c.cross_two.ensures)
+    rw (c.in-Kept.is, c.in-Kept-y.is, c.if-u-t.true, ← c.cross_two.ensures)
 
 pub returns-else-u-t : goal.returns-else-u-t
 unfolding first_on ascending
 returns-else-u-t c =
-    let c1 = c in let c3 = c1 in let c6 = c3 in
-    rw (c6.in-Kept.is, c3.in-Kept-y.is, c1.if-u-t.false, ← c.cross_two-else-u-t.ensures)
+    rw (c.in-Kept.is, c.in-Kept-y.is, c.if-u-t.false, ← c.cross_two-else-u-t.ensures)
 
 pub returns-in-Dropped-y : goal.returns-in-Dropped-y
 unfolding first_on ascending
 returns-in-Dropped-y c =
-    let c1 = c in let c4 = c1 in
-    rw (c4.in-Kept.is, c1.in-Dropped-y.is, ← c.cross_one.ensures)
+    rw (c.in-Kept.is, c.in-Dropped-y.is, ← c.cross_one.ensures)
 
 pub returns-in-Kept-y-2 : goal.returns-in-Kept-y-2
 unfolding first_on ascending
 returns-in-Kept-y-2 c =
-    let c2 = c in let c4 = c2 in
-    rw (c4.in-Dropped.is, c2.in-Kept-y-2.is, ← c.cross_one-in-Kept-y-2.ensures)
+    rw (c.in-Dropped.is, c.in-Kept-y-2.is, ← c.cross_one-in-Kept-y-2.ensures)
 
 pub returns-in-Dropped-y-2 : goal.returns-in-Dropped-y-2
 unfolding first_on ascending
-returns-in-Dropped-y-2 c = let c2 = c in rw (c2.in-Dropped.is, c.in-Dropped-y-2.is)
+returns-in-Dropped-y-2 c = rw (c.in-Dropped.is, c.in-Dropped-y-2.is)

@@ -6,8 +6,8 @@ use Rattle.surfaces.proofs.conic.curvature_of.Goals as goal
 
 pub returns-then-is_infinite : goal.returns-then-is_infinite
 unfolding curvature_of decimal of_bits
-returns-then-is_infinite c = let c1 = c in rw (← c1.is_infinite.ensures, c.if-is_infinite.true)
+returns-then-is_infinite c = rw (← c.is_infinite.ensures, c.if-is_infinite.true)
 
 pub returns-else-is_infinite : goal.returns-else-is_infinite
 unfolding curvature_of decimal of_bits
-returns-else-is_infinite c = let c1 = c in rw (← c1.is_infinite.ensures, c.if-is_infinite.false)
+returns-else-is_infinite c = rw (← c.is_infinite.ensures, c.if-is_infinite.false)

@@ -6,7 +6,7 @@ use Rattle.surfaces.proofs.conic.keep.Goals as goal
 
 pub returns-then-t : goal.returns-then-t
 unfolding kept decimal of_bits
-returns-then-t c = let c1 = c in rw (c1.if-t.true, ← c.max.ensures)
+returns-then-t c = rw (c.if-t.true, ← c.max.ensures)
 
 pub returns-else-t : goal.returns-else-t
 unfolding kept decimal of_bits

@@ -5,9 +5,8 @@ use Rattle.surfaces.proofs.conic.landed_within.Goals as goal
 pub returns-then-root_exceeds : goal.returns-then-root_exceeds
 unfolding landed_within
 returns-then-root_exceeds c =
-    let c1 = c in let c2 = c1 in
-    rw (← c2.root_exceeds.ensures, c1.if-root_exceeds.true, ← c.sqrt.ensures)
+    rw (← c.root_exceeds.ensures, c.if-root_exceeds.true, ← c.sqrt.ensures)
 
 pub returns-else-root_exceeds : goal.returns-else-root_exceeds
 unfolding landed_within
-returns-else-root_exceeds c = let c1 = c in rw (← c1.root_exceeds.ensures, c.if-root_exceeds.false)
+returns-else-root_exceeds c = rw (← c.root_exceeds.ensures, c.if-root_exceeds.false)

@@ -22,11 +22,9 @@ enum_told-1 c = search rules
 pub returns-in-Given : goal.returns-in-Given
 unfolding near_sag decimal of_bits
 returns-in-Given c =
-    let c2 = c in let c4 = c2 in let c5 = c4 in
-    rw (← c5.sqrt.ensures, ← c4.raw_conic_sag.ensures, c2.in-Given.is, ← c.abs.ensures)
+    rw (← c.sqrt.ensures, ← c.raw_conic_sag.ensures, c.in-Given.is, ← c.abs.ensures)
 
 pub returns-in-Refused : goal.returns-in-Refused
 unfolding near_sag decimal of_bits
 returns-in-Refused c =
-    let c2 = c in let c3 = c2 in
-    rw (← c3.sqrt.ensures, ← c2.raw_conic_sag.ensures, c.in-Refused.is, never_done)
+    rw (← c.sqrt.ensures, ← c.raw_conic_sag.ensures, c.in-Refused.is, never_done)

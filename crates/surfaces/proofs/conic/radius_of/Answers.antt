@@ -6,8 +6,8 @@ use Rattle.surfaces.proofs.conic.radius_of.Goals as goal
 
 pub returns-then-abs : goal.returns-then-abs
 unfolding radius_of decimal of_bits
-returns-then-abs c = let c1 = c in rw (← c1.abs.ensures, c.if-abs.true)
+returns-then-abs c = rw (← c.abs.ensures, c.if-abs.true)
 
 pub returns-else-abs : goal.returns-else-abs
 unfolding radius_of decimal of_bits
-returns-else-abs c = let c1 = c in rw (← c1.abs.ensures, c.if-abs.false)
+returns-else-abs c = rw (← c.abs.ensures, c.if-abs.false)

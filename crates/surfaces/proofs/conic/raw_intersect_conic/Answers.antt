@@ -24,25 +24,20 @@ enum_known-e-in-Refused-conic_crossing c = search rules
 pub returns-in-Given-normal_at : goal.returns-in-Given-normal_at
 unfolding conic_meet
 returns-in-Given-normal_at c =
-    let c2 = c in let c4 = c2 in let c7 = c4 in
-    let c9 = c7 in
     rw (
-      ← c9.conic_crossing.ensures,
-      c7.in-Given.is,
-      ← c4.normal_at.ensures,
-      c2.in-Given-normal_at.is,
+      ← c.conic_crossing.ensures,
+      c.in-Given.is,
+      ← c.normal_at.ensures,
+      c.in-Given-normal_at.is,
       ← c.hit_at.ensures,
     )
 
 pub returns-in-Refused-normal_at : goal.returns-in-Refused-normal_at
 unfolding conic_meet
 returns-in-Refused-normal_at c =
-    let c1 = c in let c3 = c1 in let c6 = c3 in
-    let c8 = c6 in
-    rw (← c8.conic_crossing.ensures, c6.in-Given.is, ← c3.normal_at.ensures, c1.in-Refused-normal_at.is, never_done)
+    rw (← c.conic_crossing.ensures, c.in-Given.is, ← c.normal_at.ensures, c.in-Refused-normal_at.is, never_done)
 
 pub returns-in-Refused : goal.returns-in-Refused
 unfolding conic_meet
 returns-in-Refused c =
-    let c1 = c in let c3 = c1 in
-    rw (← c3.conic_crossing.ensures, c1.in-Refused.is, never_done)
+    rw (← c.conic_crossing.ensures, c.in-Refused.is, never_done)

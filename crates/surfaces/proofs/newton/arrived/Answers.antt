@@ -6,9 +6,8 @@ use Rattle.surfaces.proofs.newton.arrived.Goals as goal
 pub returns-then-checks : goal.returns-then-checks
 unfolding arrived_at distance
 returns-then-checks c =
-    let c3 = c in let c4 = c3 in
-    rw (← c4.point_at-p.ensures, c3.if-checks.true, ← c.landed_within.ensures)
+    rw (← c.point_at-p.ensures, c.if-checks.true, ← c.landed_within.ensures)
 
 pub returns-else-checks : goal.returns-else-checks
 unfolding arrived_at distance
-returns-else-checks c = let c1 = c in rw (← c1.point_at-p.ensures, c.if-checks.false)
+returns-else-checks c = rw (← c.point_at-p.ensures, c.if-checks.false)

@@ -5,4 +5,4 @@ use Rattle.surfaces.proofs.newton.can_be_met.Goals as goal
 
 pub returns : goal.returns
 unfolding decimal of_bits
-returns c = let c1 = c in rw (← c1.ray_finite.ensures, ← c.is_finite.ensures)
+returns c = rw (← c.ray_finite.ensures, ← c.is_finite.ensures)

@@ -13,7 +13,7 @@ odd_checks c k false = refl
 odd_checks c k true = refl
 
 pub returns-in-Asphere : goal.returns-in-Asphere
-returns-in-Asphere c = let q = c in rw q.in-Asphere.is (odd_checks _ _ _)
+returns-in-Asphere c = rw c.in-Asphere.is (odd_checks _ _ _)
 
 pub returns-in-Biconic : goal.returns-in-Biconic
 returns-in-Biconic c = rw c.in-Biconic.is

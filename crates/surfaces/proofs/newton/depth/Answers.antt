@@ -18,19 +18,17 @@ enum_known-q-in-Toroid-1 c = search rules
 pub returns-then-odd : goal.returns-then-odd
 unfolding depth_of
 returns-then-odd c =
-    let c1 = c in let c2 = c1 in let c4 = c2 in
-    rw (c4.in-Asphere.is, c2.if-odd.true, ← c1.sqrt.ensures, ← c.odd_depth.ensures)
+    rw (c.in-Asphere.is, c.if-odd.true, ← c.sqrt.ensures, ← c.odd_depth.ensures)
 
 pub returns-else-odd : goal.returns-else-odd
 unfolding depth_of
 returns-else-odd c =
-    let c1 = c in let c2 = c1 in let c4 = c2 in
-    rw (c4.in-Asphere.is, c2.if-odd.false, ← c1.sqrt-else-odd.ensures, ← c.even_depth.ensures)
+    rw (c.in-Asphere.is, c.if-odd.false, ← c.sqrt-else-odd.ensures, ← c.even_depth.ensures)
 
 pub returns-in-Biconic : goal.returns-in-Biconic
 unfolding depth_of
-returns-in-Biconic c = let c2 = c in rw (c2.in-Biconic.is, ← c.biconic_depth.ensures)
+returns-in-Biconic c = rw (c.in-Biconic.is, ← c.biconic_depth.ensures)
 
 pub returns-in-Toroid : goal.returns-in-Toroid
 unfolding depth_of
-returns-in-Toroid c = let c2 = c in rw (c2.in-Toroid.is, ← c.toroid_depth.ensures)
+returns-in-Toroid c = rw (c.in-Toroid.is, ← c.toroid_depth.ensures)

@@ -2,7 +2,7 @@
 use Rattle.surfaces.proofs.newton.ended.Goals as goal
 
 pub returns-in-Given : goal.returns-in-Given
-returns-in-Given c = let c1 = c in rw c1.in-Given.is
+returns-in-Given c = rw c.in-Given.is
 
 pub returns-in-Refused : goal.returns-in-Refused
-returns-in-Refused c = let c1 = c in rw c1.in-Refused.is
+returns-in-Refused c = rw c.in-Refused.is

@@ -33,32 +33,30 @@ enum_told-in-Refused c = search rules
 pub returns-then-profile_limit-made : goal.returns-then-profile_limit-made
 unfolding limited_pass
 returns-then-profile_limit-made c =
-    let c1 = c in let c2 = c1 in let c3 = c2 in let c5 = c3 in
     rw (
-      ← c5.next_pass-x.ensures,
-      c3.in-Again.is,
+      ← c.next_pass-x.ensures,
+      c.in-Again.is,
       (kind_alone _ _ no_polynomial _ 0f).1,
-      ← c2.profile_limit.ensures,
-      le-leb _ _ c1.if-profile_limit-made.true,
+      ← c.profile_limit.ensures,
+      le-leb _ _ c.if-profile_limit-made.true,
       ← c.missed.ensures,
     )
 
 pub returns-else-profile_limit-made : goal.returns-else-profile_limit-made
 unfolding limited_pass
 returns-else-profile_limit-made c =
-    let c1 = c in let c2 = c1 in let c4 = c2 in
     rw (
-      ← c4.next_pass-x.ensures,
-      c2.in-Again.is,
+      ← c.next_pass-x.ensures,
+      c.in-Again.is,
       (kind_alone _ _ no_polynomial _ 0f).1,
-      ← c1.profile_limit.ensures,
+      ← c.profile_limit.ensures,
       lt-leb _ _ c.if-profile_limit-made.false,
     )
 
 pub returns-in-Given : goal.returns-in-Given
 unfolding limited_pass
-returns-in-Given c = let c2 = c in rw (← c2.next_pass-x.ensures, c.in-Given.is)
+returns-in-Given c = rw (← c.next_pass-x.ensures, c.in-Given.is)
 
 pub returns-in-Refused : goal.returns-in-Refused
 unfolding limited_pass
-returns-in-Refused c = let c2 = c in rw (← c2.next_pass-x.ensures, c.in-Refused.is, never_going)
+returns-in-Refused c = rw (← c.next_pass-x.ensures, c.in-Refused.is, never_going)

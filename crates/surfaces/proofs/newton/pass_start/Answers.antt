@@ -5,7 +5,7 @@ use Rattle.surfaces.proofs.newton.pass_start.Goals as goal
 
 pub returns-then-made-eq0 : goal.returns-then-made-eq0
 unfolding pass_start
-returns-then-made-eq0 c = let c1 = c in rw (eq-eqb _ _ c1.if-made-eq0.true, ← c.vertex_plane.ensures)
+returns-then-made-eq0 c = rw (eq-eqb _ _ c.if-made-eq0.true, ← c.vertex_plane.ensures)
 
 pub returns-else-made-eq0 : goal.returns-else-made-eq0
 unfolding pass_start

@@ -2,10 +2,10 @@
 use Rattle.surfaces.proofs.newton.profile_limit.Goals as goal
 
 pub returns-then-odd : goal.returns-then-odd
-returns-then-odd c = let c2 = c in rw (c2.in-Asphere.is, c.if-odd.true)
+returns-then-odd c = rw (c.in-Asphere.is, c.if-odd.true)
 
 pub returns-else-odd : goal.returns-else-odd
-returns-else-odd c = let c2 = c in rw (c2.in-Asphere.is, c.if-odd.false)
+returns-else-odd c = rw (c.in-Asphere.is, c.if-odd.false)
 
 pub returns-in-Biconic : goal.returns-in-Biconic
 returns-in-Biconic c = rw c.in-Biconic.is

@@ -18,19 +18,17 @@ enum_known-q-in-Toroid-1 c = search rules
 pub returns-then-odd : goal.returns-then-odd
 unfolding slopes_from
 returns-then-odd c =
-    let c1 = c in let c3 = c1 in
-    rw (c3.in-Asphere.is, c1.if-odd.true, ← c.odd_slopes_from.ensures)
+    rw (c.in-Asphere.is, c.if-odd.true, ← c.odd_slopes_from.ensures)
 
 pub returns-else-odd : goal.returns-else-odd
 unfolding slopes_from
 returns-else-odd c =
-    let c1 = c in let c3 = c1 in
-    rw (c3.in-Asphere.is, c1.if-odd.false, ← c.even_slopes_from.ensures)
+    rw (c.in-Asphere.is, c.if-odd.false, ← c.even_slopes_from.ensures)
 
 pub returns-in-Biconic : goal.returns-in-Biconic
 unfolding slopes_from
-returns-in-Biconic c = let c2 = c in rw (c2.in-Biconic.is, ← c.biconic_slopes_from.ensures)
+returns-in-Biconic c = rw (c.in-Biconic.is, ← c.biconic_slopes_from.ensures)
 
 pub returns-in-Toroid : goal.returns-in-Toroid
 unfolding slopes_from
-returns-in-Toroid c = let c2 = c in rw (c2.in-Toroid.is, ← c.toroid_slopes_from.ensures)
+returns-in-Toroid c = rw (c.in-Toroid.is, ← c.toroid_slopes_from.ensures)

@@ -16,14 +16,12 @@ enum_told-1 c = search rules
 pub returns-then-is_finite-all_finite : goal.returns-then-is_finite-all_finite
 unfolding landing_finite
 returns-then-is_finite-all_finite c =
-    let c1 = c in let c2 = c1 in let c5 = c2 in
-    rw (c5.in-Given.is, ← c2.is_finite.ensures, ← c1.all_finite.ensures, c.if-is_finite-all_finite.true)
+    rw (c.in-Given.is, ← c.is_finite.ensures, ← c.all_finite.ensures, c.if-is_finite-all_finite.true)
 
 pub returns-else-is_finite-all_finite : goal.returns-else-is_finite-all_finite
 unfolding landing_finite
 returns-else-is_finite-all_finite c =
-    let c1 = c in let c2 = c1 in let c5 = c2 in
-    rw (c5.in-Given.is, ← c2.is_finite.ensures, ← c1.all_finite.ensures, c.if-is_finite-all_finite.false)
+    rw (c.in-Given.is, ← c.is_finite.ensures, ← c.all_finite.ensures, c.if-is_finite-all_finite.false)
 
 pub returns-in-Refused : goal.returns-in-Refused
 unfolding landing_finite

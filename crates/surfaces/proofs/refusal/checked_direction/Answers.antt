@@ -5,13 +5,11 @@ use Rattle.surfaces.proofs.refusal.checked_direction.Goals as goal
 
 pub returns-then-all_finite : goal.returns-then-all_finite
 returns-then-all_finite c =
-    let c1 = c in let c3 = c1 in
-    rw (c3.in-Given.is, ← c1.all_finite.ensures, c.if-all_finite.true)
+    rw (c.in-Given.is, ← c.all_finite.ensures, c.if-all_finite.true)
 
 pub returns-else-all_finite : goal.returns-else-all_finite
 returns-else-all_finite c =
-    let c1 = c in let c3 = c1 in
-    rw (c3.in-Given.is, ← c1.all_finite.ensures, c.if-all_finite.false)
+    rw (c.in-Given.is, ← c.all_finite.ensures, c.if-all_finite.false)
 
 pub returns-in-Refused : goal.returns-in-Refused
 returns-in-Refused c = rw (c.in-Refused.is, never_done)

@@ -5,13 +5,11 @@ use Rattle.surfaces.proofs.refusal.checked_number.Goals as goal
 
 pub returns-then-is_finite : goal.returns-then-is_finite
 returns-then-is_finite c =
-    let c1 = c in let c3 = c1 in
-    rw (c3.in-Given.is, ← c1.is_finite.ensures, c.if-is_finite.true)
+    rw (c.in-Given.is, ← c.is_finite.ensures, c.if-is_finite.true)
 
 pub returns-else-is_finite : goal.returns-else-is_finite
 returns-else-is_finite c =
-    let c1 = c in let c3 = c1 in
-    rw (c3.in-Given.is, ← c1.is_finite.ensures, c.if-is_finite.false)
+    rw (c.in-Given.is, ← c.is_finite.ensures, c.if-is_finite.false)
 
 pub returns-in-Refused : goal.returns-in-Refused
 returns-in-Refused c = rw (c.in-Refused.is, never_done)

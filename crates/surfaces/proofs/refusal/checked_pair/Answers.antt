@@ -16,14 +16,12 @@ enum_told-1 c = search rules
 pub returns-then-is_finite : goal.returns-then-is_finite
 unfolding both_finite
 returns-then-is_finite c =
-    let c1 = c in let c2 = c1 in let c4 = c2 in
-    rw (c4.in-Given.is, ← c2.is_finite.ensures, ← c1.is_finite-in-Given.ensures, c.if-is_finite.true)
+    rw (c.in-Given.is, ← c.is_finite.ensures, ← c.is_finite-in-Given.ensures, c.if-is_finite.true)
 
 pub returns-else-is_finite : goal.returns-else-is_finite
 unfolding both_finite
 returns-else-is_finite c =
-    let c1 = c in let c2 = c1 in let c4 = c2 in
-    rw (c4.in-Given.is, ← c2.is_finite.ensures, ← c1.is_finite-in-Given.ensures, c.if-is_finite.false)
+    rw (c.in-Given.is, ← c.is_finite.ensures, ← c.is_finite-in-Given.ensures, c.if-is_finite.false)
 
 pub returns-in-Refused : goal.returns-in-Refused
 unfolding both_finite

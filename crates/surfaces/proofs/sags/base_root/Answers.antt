@@ -6,10 +6,9 @@ use Rattle.surfaces.proofs.sags.base_root.Goals as goal
 
 pub returns-then-abs : goal.returns-then-abs
 unfolding base_root decimal of_bits
-returns-then-abs c = let c1 = c in rw (← c1.abs.ensures, c.if-abs.true)
+returns-then-abs c = rw (← c.abs.ensures, c.if-abs.true)
 
 pub returns : goal.returns
 unfolding base_root decimal of_bits
 returns c =
-    let c1 = c in let c2 = c1 in
-    rw (← c2.abs.ensures, c1.if-abs.false, ← c.edge_root_beside.ensures)
+    rw (← c.abs.ensures, c.if-abs.false, ← c.edge_root_beside.ensures)

@@ -6,12 +6,12 @@ use Rattle.surfaces.proofs.sags.base_slope_from.Goals as goal
 
 pub returns-then-abs : goal.returns-then-abs
 unfolding base_slope_from decimal of_bits
-returns-then-abs c = let c1 = c in rw (← c1.abs.ensures, c.if-abs.true)
+returns-then-abs c = rw (← c.abs.ensures, c.if-abs.true)
 
 pub returns-then-s : goal.returns-then-s
 unfolding base_slope_from decimal of_bits
-returns-then-s c = let c1 = c in let c2 = c1 in rw (← c2.abs.ensures, c1.if-abs.false, c.if-s.true)
+returns-then-s c = rw (← c.abs.ensures, c.if-abs.false, c.if-s.true)
 
 pub returns : goal.returns
 unfolding base_slope_from decimal of_bits
-returns c = let c1 = c in let c2 = c1 in rw (← c2.abs.ensures, c1.if-abs.false, c.if-s.false)
+returns c = rw (← c.abs.ensures, c.if-abs.false, c.if-s.false)

@@ -11,5 +11,4 @@ returns-then-s c = rw c.if-s.true
 pub returns : goal.returns
 unfolding biconic_slopes_at decimal of_bits
 returns c =
-    let c1 = c in let c2 = c1 in
-    rw (c2.if-s.false, ← c1.meridian_slope.ensures, ← c.meridian_slope-2.ensures)
+    rw (c.if-s.false, ← c.meridian_slope.ensures, ← c.meridian_slope-2.ensures)

@@ -6,10 +6,9 @@ use Rattle.surfaces.proofs.sags.biconic_slopes_from.Goals as goal
 
 pub returns-then-on_axis : goal.returns-then-on_axis
 unfolding biconic_slopes_from decimal of_bits
-returns-then-on_axis c = let c1 = c in rw (← c1.on_axis.ensures, c.if-on_axis.true)
+returns-then-on_axis c = rw (← c.on_axis.ensures, c.if-on_axis.true)
 
 pub returns : goal.returns
 unfolding biconic_slopes_from decimal of_bits
 returns c =
-    let c1 = c in let c2 = c1 in
-    rw (← c2.on_axis.ensures, c1.if-on_axis.false, ← c.biconic_slopes_at.ensures)
+    rw (← c.on_axis.ensures, c.if-on_axis.false, ← c.biconic_slopes_at.ensures)

@@ -14,9 +14,8 @@ enum_told-1 c = search rules
 pub returns-in-Given : goal.returns-in-Given
 unfolding circle_depth
 returns-in-Given c =
-    let c2 = c in let c4 = c2 in
-    rw (← c4.edge_root_beside.ensures, c2.in-Given.is, ← c.sign_of.ensures)
+    rw (← c.edge_root_beside.ensures, c.in-Given.is, ← c.sign_of.ensures)
 
 pub returns-in-Outside : goal.returns-in-Outside
 unfolding circle_depth
-returns-in-Outside c = let c2 = c in rw (← c2.edge_root_beside.ensures, c.in-Outside.is)
+returns-in-Outside c = rw (← c.edge_root_beside.ensures, c.in-Outside.is)

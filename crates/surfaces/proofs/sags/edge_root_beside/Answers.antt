@@ -12,5 +12,4 @@ returns-then-radicand c = rw c.if-radicand.true
 pub returns : goal.returns
 unfolding edge_root decimal of_bits
 returns c =
-    let c2 = c in let c3 = c2 in
-    rw (c3.if-radicand.false, ← c2.max.ensures, ← c.root_beside.ensures)
+    rw (c.if-radicand.false, ← c.max.ensures, ← c.root_beside.ensures)

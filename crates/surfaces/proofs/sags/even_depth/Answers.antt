@@ -7,7 +7,7 @@ use Rattle.surfaces.proofs.sags.even_depth.Goals as goal
 
 pub returns-then-is_finite-r : goal.returns-then-is_finite-r
 unfolding even_depth decimal of_bits
-returns-then-is_finite-r c = let c1 = c in rw (← c1.is_finite.ensures, c.if-is_finite-r.true)
+returns-then-is_finite-r c = rw (← c.is_finite.ensures, c.if-is_finite-r.true)
 
 pub enum_known-s : goal.enum_known-s
 unfolding even_depth decimal of_bits
@@ -20,19 +20,16 @@ enum_told-1 c = search rules
 pub returns-in-Given : goal.returns-in-Given
 unfolding even_depth decimal of_bits
 returns-in-Given c =
-    let c1 = c in let c3 = c1 in let c5 = c3 in let c7 = c5 in
-    let c8 = c7 in
     rw (
-      ← c8.is_finite.ensures,
-      c7.if-is_finite-r.false,
-      ← c5.base_root.ensures,
-      c3.in-Given.is,
-      ← c1.base_sag_from.ensures,
+      ← c.is_finite.ensures,
+      c.if-is_finite-r.false,
+      ← c.base_root.ensures,
+      c.in-Given.is,
+      ← c.base_sag_from.ensures,
       ← c.power_sum.ensures,
     )
 
 pub returns-in-Outside : goal.returns-in-Outside
 unfolding even_depth decimal of_bits
 returns-in-Outside c =
-    let c2 = c in let c4 = c2 in let c5 = c4 in
-    rw (← c5.is_finite.ensures, c4.if-is_finite-r.false, ← c2.base_root.ensures, c.in-Outside.is)
+    rw (← c.is_finite.ensures, c.if-is_finite-r.false, ← c.base_root.ensures, c.in-Outside.is)

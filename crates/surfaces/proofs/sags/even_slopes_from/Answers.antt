@@ -18,11 +18,9 @@ enum_known-e c = search rules
 pub returns-in-Given : goal.returns-in-Given
 unfolding even_slopes_from decimal of_bits
 returns-in-Given c =
-    let c2 = c in let c4 = c2 in
-    rw (← c4.even_slope_from.ensures, c2.in-Given.is, ← c.radial_slopes.ensures)
+    rw (← c.even_slope_from.ensures, c.in-Given.is, ← c.radial_slopes.ensures)
 
 pub returns-in-Refused : goal.returns-in-Refused
 unfolding even_slopes_from decimal of_bits
 returns-in-Refused c =
-    let c1 = c in let c3 = c1 in
-    rw (← c3.even_slope_from.ensures, c1.in-Refused.is, never_done)
+    rw (← c.even_slope_from.ensures, c.in-Refused.is, never_done)

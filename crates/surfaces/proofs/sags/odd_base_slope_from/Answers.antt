@@ -6,8 +6,8 @@ use Rattle.surfaces.proofs.sags.odd_base_slope_from.Goals as goal
 
 pub returns-then-abs : goal.returns-then-abs
 unfolding odd_base_slope_from decimal of_bits
-returns-then-abs c = let c1 = c in rw (← c1.abs.ensures, c.if-abs.true)
+returns-then-abs c = rw (← c.abs.ensures, c.if-abs.true)
 
 pub returns-else-abs : goal.returns-else-abs
 unfolding odd_base_slope_from decimal of_bits
-returns-else-abs c = let c1 = c in let c2 = c1 in rw (← c2.abs.ensures, c1.if-abs.false, ← c.max.ensures)
+returns-else-abs c = rw (← c.abs.ensures, c.if-abs.false, ← c.max.ensures)

@@ -6,4 +6,4 @@ use Rattle.surfaces.proofs.sags.odd_on_axis.Goals as goal
 
 pub returns : goal.returns
 unfolding odd_on_axis decimal of_bits
-returns c = let c1 = c in rw (← c1.first_or_zero.ensures, ← c.abs.ensures)
+returns c = rw (← c.first_or_zero.ensures, ← c.abs.ensures)

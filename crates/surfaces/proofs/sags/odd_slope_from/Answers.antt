@@ -7,5 +7,4 @@ use Rattle.surfaces.proofs.sags.odd_slope_from.Goals as goal
 pub returns : goal.returns
 unfolding odd_slope_from decimal of_bits
 returns c =
-    let c1 = c in let c2 = c1 in
-    rw (← c2.odd_base_slope_from.ensures, ← c1.slope_sum.ensures, ← c.slope_sum-2.ensures)
+    rw (← c.odd_base_slope_from.ensures, ← c.slope_sum.ensures, ← c.slope_sum-2.ensures)

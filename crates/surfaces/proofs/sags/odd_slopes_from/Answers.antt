@@ -6,10 +6,9 @@ use Rattle.surfaces.proofs.sags.odd_slopes_from.Goals as goal
 
 pub returns-then-odd_on_axis : goal.returns-then-odd_on_axis
 unfolding odd_slopes_from decimal of_bits
-returns-then-odd_on_axis c = let c1 = c in rw (← c1.odd_on_axis.ensures, c.if-odd_on_axis.true)
+returns-then-odd_on_axis c = rw (← c.odd_on_axis.ensures, c.if-odd_on_axis.true)
 
 pub returns : goal.returns
 unfolding odd_slopes_from decimal of_bits
 returns c =
-    let c1 = c in let c2 = c1 in let c3 = c2 in
-    rw (← c3.odd_on_axis.ensures, c2.if-odd_on_axis.false, ← c1.odd_slope_from-d.ensures, ← c.radial_slopes.ensures)
+    rw (← c.odd_on_axis.ensures, c.if-odd_on_axis.false, ← c.odd_slope_from-d.ensures, ← c.radial_slopes.ensures)

@@ -6,4 +6,4 @@ use Rattle.surfaces.proofs.sags.on_axis.Goals as goal
 
 pub returns : goal.returns
 unfolding on_axis decimal of_bits
-returns c = let c1 = c in rw (← c1.abs.ensures, ← c.abs-2.ensures)
+returns c = rw (← c.abs.ensures, ← c.abs-2.ensures)

@@ -13,16 +13,13 @@ loop-i-init c = refl
 
 pub returns-then-n-i : goal.returns-then-n-i
 returns-then-n-i c =
-    let l = c in
-    sym (power_end l.args.values l.args.n l.loop-i.i _ _ _ (omega arith)) ∙ l.loop-i.invariant
+    sym (power_end c.args.values c.args.n c.loop-i.i _ _ _ (omega arith)) ∙ c.loop-i.invariant
 
 pub loop-i-preserved : goal.loop-i-preserved
 loop-i-preserved c =
-    let l = c in
-    sym (power_turn l.args.values l.args.n l.loop-i.i _ _ _ (omega arith) (search rules))
-    ∙ l.loop-i.invariant
+    sym (power_turn c.args.values c.args.n c.loop-i.i _ _ _ (omega arith) (search rules))
+    ∙ c.loop-i.invariant
 
 pub returns : goal.returns
 returns c =
-    let l = c in
-    sym (power_end l.args.values l.args.n l.loop-i.i _ _ _ (omega arith)) ∙ l.loop-i.invariant
+    sym (power_end c.args.values c.args.n c.loop-i.i _ _ _ (omega arith)) ∙ c.loop-i.invariant

@@ -2,7 +2,7 @@
 use Rattle.surfaces.proofs.sags.sag_of.Goals as goal
 
 pub returns-in-Given : goal.returns-in-Given
-returns-in-Given c = let c1 = c in rw c1.in-Given.is
+returns-in-Given c = rw c.in-Given.is
 
 pub returns-in-Outside : goal.returns-in-Outside
 returns-in-Outside c = rw c.in-Outside.is

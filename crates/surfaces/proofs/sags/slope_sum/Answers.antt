@@ -15,8 +15,7 @@ loop-i-init c = refl
 
 pub returns-then-n-i : goal.returns-then-n-i
 returns-then-n-i c =
-    let l = c in
-    sym (slope_end l.args.values l.args.n l.loop-i.i _ _ _ _ (omega arith)) ∙ l.loop-i.invariant
+    sym (slope_end c.args.values c.args.n c.loop-i.i _ _ _ _ (omega arith)) ∙ c.loop-i.invariant
 
 -- i is below 8, so that a float holds it
 pub int_to_float-e : goal.int_to_float-e
@@ -26,11 +25,9 @@ int_to_float-e c = le→leb c.loop-i.i (2 ^ 53) (omega arith)
 pub loop-i-preserved : goal.loop-i-preserved
 unfolding decimal of_bits
 loop-i-preserved c =
-    let l = c in
-    sym (slope_turn l.args.values l.args.n l.loop-i.i _ _ _ _ (omega arith) (search rules))
-    ∙ l.loop-i.invariant
+    sym (slope_turn c.args.values c.args.n c.loop-i.i _ _ _ _ (omega arith) (search rules))
+    ∙ c.loop-i.invariant
 
 pub returns : goal.returns
 returns c =
-    let l = c in
-    sym (slope_end l.args.values l.args.n l.loop-i.i _ _ _ _ (omega arith)) ∙ l.loop-i.invariant
+    sym (slope_end c.args.values c.args.n c.loop-i.i _ _ _ _ (omega arith)) ∙ c.loop-i.invariant

@@ -4,4 +4,4 @@ use Rattle.surfaces.proofs.snell.reflect.Goals as goal
 
 pub returns : goal.returns
 unfolding reflect_answer
-returns c = let c1 = c in rw (← c1.raw_reflect.ensures, ← c.checked_direction.ensures)
+returns c = rw (← c.raw_reflect.ensures, ← c.checked_direction.ensures)

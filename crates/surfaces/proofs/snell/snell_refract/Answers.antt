@@ -4,4 +4,4 @@ use Rattle.surfaces.proofs.snell.snell_refract.Goals as goal
 
 pub returns : goal.returns
 unfolding refract_answer
-returns c = let c1 = c in rw (← c1.raw_snell_refract.ensures, ← c.checked_direction.ensures)
+returns c = rw (← c.raw_snell_refract.ensures, ← c.checked_direction.ensures)

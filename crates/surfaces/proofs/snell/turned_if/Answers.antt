@@ -4,7 +4,7 @@ use Rattle.surfaces.proofs.snell.turned_if.Goals as goal
 
 pub returns-then-b : goal.returns-then-b
 unfolding turned_if
-returns-then-b c = let c3 = c in rw c3.if-b.true
+returns-then-b c = rw c.if-b.true
 
 pub returns-else-b : goal.returns-else-b
 unfolding turned_if

@@ -29,17 +29,16 @@ newton_chain-requires c = omega (arith, c.if-left-eq0.false)
 pub returns-in-Conic : goal.returns-in-Conic
 unfolding chain_by
 returns-in-Conic c =
-    let c1 = c in let c2 = c1 in let c4 = c2 in let c6 = c4 in
-    let c8 = c6 in let a = c8.args in
-    let less : a.left ≡ suc (a.left - 1) = omega (arith, c8.if-left-eq0.false) in
+    let a = c.args in
+    let less : a.left ≡ suc (a.left - 1) = omega (arith, c.if-left-eq0.false) in
     rw (
       less,
       family_way a.s.kind a.s,
-      ← c6.family_of.ensures,
-      c4.in-Conic.is,
+      ← c.family_of.ensures,
+      c.in-Conic.is,
       c.ended.ensures,
-      c1.conic_crossing.ensures,
-      c2.conic_of.ensures,
+      c.conic_crossing.ensures,
+      c.conic_of.ensures,
       at_once,
       add-one,
     )
@@ -47,5 +46,5 @@ returns-in-Conic c =
 pub returns-in-Newton : goal.returns-in-Newton
 unfolding chain_by
 returns-in-Newton c =
-    let c2 = c in let c4 = c2 in let s = c4.args.s in
-    rw (family_way s.kind s, ← c4.family_of.ensures, c2.in-Newton.is, ← c.newton_chain.ensures)
+    let s = c.args.s in
+    rw (family_way s.kind s, ← c.family_of.ensures, c.in-Newton.is, ← c.newton_chain.ensures)

@@ -2,13 +2,13 @@
 use Rattle.surfaces.proofs.surface.family_of.Goals as goal
 
 pub returns-in-Conic : goal.returns-in-Conic
-returns-in-Conic c = let c1 = c in rw c1.in-Conic.is
+returns-in-Conic c = rw c.in-Conic.is
 
 pub returns-in-Asphere : goal.returns-in-Asphere
-returns-in-Asphere c = let c1 = c in rw c1.in-Asphere.is
+returns-in-Asphere c = rw c.in-Asphere.is
 
 pub returns-in-Biconic : goal.returns-in-Biconic
-returns-in-Biconic c = let c1 = c in rw c1.in-Biconic.is
+returns-in-Biconic c = rw c.in-Biconic.is
 
 pub returns-in-Toroid : goal.returns-in-Toroid
-returns-in-Toroid c = let c1 = c in rw c1.in-Toroid.is
+returns-in-Toroid c = rw c.in-Toroid.is

@@ -15,11 +15,11 @@ enum_known-q c = search rules
 pub returns-in-Conic : goal.returns-in-Conic
 unfolding limit_of
 returns-in-Conic c =
-    let f = c in let kind = f.args.kind in
-    rw (family_way kind (bare kind), ← f.family_of.ensures, c.in-Conic.is)
+    let kind = c.args.kind in
+    rw (family_way kind (bare kind), ← c.family_of.ensures, c.in-Conic.is)
 
 pub returns-in-Newton : goal.returns-in-Newton
 unfolding limit_of
 returns-in-Newton c =
-    let q = c in let f = q in let kind = f.args.kind in
-    rw (family_way kind (bare kind), ← f.family_of.ensures, q.in-Newton.is, ← c.profile_limit.ensures)
+    let kind = c.args.kind in
+    rw (family_way kind (bare kind), ← c.family_of.ensures, c.in-Newton.is, ← c.profile_limit.ensures)

@@ -13,8 +13,8 @@ enum_known-b c = search rules
 
 pub returns-in-Mirror : goal.returns-in-Mirror
 unfolding onward_from
-returns-in-Mirror c = let c1 = c in rw (c1.in-Mirror.is, ← c.raw_reflect.ensures)
+returns-in-Mirror c = rw (c.in-Mirror.is, ← c.raw_reflect.ensures)
 
 pub returns-in-Media : goal.returns-in-Media
 unfolding onward_from
-returns-in-Media c = let c2 = c in rw (c2.in-Media.is, ← c.raw_snell_refract.ensures)
+returns-in-Media c = rw (c.in-Media.is, ← c.raw_snell_refract.ensures)

@@ -26,18 +26,14 @@ enum_known-e-in-Refused-normal c = search rules
 pub returns-in-Given-onward : goal.returns-in-Given-onward
 unfolding turn_answer decimal of_bits
 returns-in-Given-onward c =
-    let c2 = c in let c4 = c2 in let c6 = c4 in
-    let c8 = c6 in
-    rw (← c8.normal.ensures, c6.in-Given.is, ← c4.onward.ensures, c2.in-Given-onward.is, ← c.dot.ensures)
+    rw (← c.normal.ensures, c.in-Given.is, ← c.onward.ensures, c.in-Given-onward.is, ← c.dot.ensures)
 
 pub returns-in-Refused-onward : goal.returns-in-Refused-onward
 unfolding turn_answer decimal of_bits
 returns-in-Refused-onward c =
-    let c1 = c in let c3 = c1 in let c5 = c3 in let c7 = c5 in
-    rw (← c7.normal.ensures, c5.in-Given.is, ← c3.onward.ensures, c1.in-Refused-onward.is, never_done)
+    rw (← c.normal.ensures, c.in-Given.is, ← c.onward.ensures, c.in-Refused-onward.is, never_done)
 
 pub returns-in-Refused : goal.returns-in-Refused
 unfolding turn_answer decimal of_bits
 returns-in-Refused c =
-    let c1 = c in let c3 = c1 in
-    rw (← c3.normal.ensures, c1.in-Refused.is, never_done)
+    rw (← c.normal.ensures, c.in-Refused.is, never_done)

@@ -5,5 +5,4 @@ use Rattle.surfaces.proofs.types.all_finite.Goals as goal
 pub returns : goal.returns
 unfolding all_finite
 returns c =
-    let c1 = c in let c2 = c1 in
-    rw (← c2.is_finite.ensures, ← c1.is_finite-2.ensures, ← c.is_finite-3.ensures)
+    rw (← c.is_finite.ensures, ← c.is_finite-2.ensures, ← c.is_finite-3.ensures)

@@ -8,22 +8,18 @@ use Rattle.surfaces.proofs.types.first_finite.Goals as goal
 
 pub returns-then-n-i : goal.returns-then-n-i
 returns-then-n-i c =
-    let l = c in
-    sym (finite_end l.args.values l.args.n l.loop-i.i (omega arith)) ∙ l.loop-i.invariant
+    sym (finite_end c.args.values c.args.n c.loop-i.i (omega arith)) ∙ c.loop-i.invariant
 
 pub returns-then-not-is_finite : goal.returns-then-not-is_finite
 returns-then-not-is_finite c =
-    let l = c in
-    sym (finite_stop l.args.values l.args.n l.loop-i.i (omega arith) (search rules)
-    (ap not (sym c.is_finite.ensures ∙ c.if-not-is_finite.true))) ∙ l.loop-i.invariant
+    sym (finite_stop c.args.values c.args.n c.loop-i.i (omega arith) (search rules)
+    (ap not (sym c.is_finite.ensures ∙ c.if-not-is_finite.true))) ∙ c.loop-i.invariant
 
 pub loop-i-preserved : goal.loop-i-preserved
 loop-i-preserved c =
-    let l = c in
-    sym (finite_turn l.args.values l.args.n l.loop-i.i (omega arith) (search rules)
-    (ap not (sym c.is_finite.ensures ∙ c.if-not-is_finite.false))) ∙ l.loop-i.invariant
+    sym (finite_turn c.args.values c.args.n c.loop-i.i (omega arith) (search rules)
+    (ap not (sym c.is_finite.ensures ∙ c.if-not-is_finite.false))) ∙ c.loop-i.invariant
 
 pub returns : goal.returns
 returns c =
-    let l = c in
-    sym (finite_end l.args.values l.args.n l.loop-i.i (omega arith)) ∙ l.loop-i.invariant
+    sym (finite_end c.args.values c.args.n c.loop-i.i (omega arith)) ∙ c.loop-i.invariant

@@ -4,4 +4,4 @@ use Rattle.surfaces.proofs.types.length.Goals as goal
 
 pub returns : goal.returns
 unfolding vector_length
-returns c = let c1 = c in rw (← c1.dot.ensures, ← c.sqrt.ensures)
+returns c = rw (← c.dot.ensures, ← c.sqrt.ensures)

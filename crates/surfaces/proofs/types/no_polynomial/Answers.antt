@@ -3,4 +3,4 @@
 use Rattle.surfaces.proofs.types.no_polynomial.Goals as goal
 
 pub returns : goal.returns
-returns c = let c1 = c in rw (c1.no_coefficients.ensures, c.no_coefficients-2.ensures)
+returns c = rw (c.no_coefficients.ensures, c.no_coefficients-2.ensures)

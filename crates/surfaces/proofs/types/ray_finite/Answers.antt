@@ -4,4 +4,4 @@ use Rattle.surfaces.proofs.types.ray_finite.Goals as goal
 
 pub returns : goal.returns
 unfolding ray_finite
-returns c = let c1 = c in rw (← c1.all_finite.ensures, ← c.all_finite-2.ensures)
+returns c = rw (← c.all_finite.ensures, ← c.all_finite-2.ensures)

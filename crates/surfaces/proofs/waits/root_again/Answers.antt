@@ -4,8 +4,8 @@ use Rattle.surfaces.proofs.waits.root_again.Goals as goal
 
 pub returns-then-same : goal.returns-then-same
 unfolding root_again
-returns-then-same c = let c1 = c in rw (← c1.same.ensures, c.if-same.true)
+returns-then-same c = rw (← c.same.ensures, c.if-same.true)
 
 pub returns-else-same : goal.returns-else-same
 unfolding root_again
-returns-else-same c = let c1 = c in let c2 = c1 in rw (← c2.same.ensures, c1.if-same.false, ← c.sqrt.ensures)
+returns-else-same c = rw (← c.same.ensures, c.if-same.false, ← c.sqrt.ensures)

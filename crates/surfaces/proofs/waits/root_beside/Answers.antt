@@ -7,6 +7,5 @@ use Rattle.surfaces.proofs.waits.root_beside.Goals as goal
 
 pub returns : goal.returns
 returns c =
-    let a = c in
-    c.root_again.ensures ∙ ap (root_again a.args.x a.args.y) c.sqrt.ensures
-    ∙ root_again_lem a.args.x a.args.y (passes _ a.well_formed.0.1) (passes _ a.well_formed.1.0.1)
+    c.root_again.ensures ∙ ap (root_again c.args.x c.args.y) c.sqrt.ensures
+    ∙ root_again_lem c.args.x c.args.y (passes _ c.well_formed.0.1) (passes _ c.well_formed.1.0.1)

@@ -32,7 +32,7 @@ slice_bounds-check-start c =
     let long : source_bytes ≤ length (c.args.file.now) =
     let e = sym c.read_source-s.ensures in
     source_long (c.args.file.now) (ap (λ (s : Source). s.number) e ∙ c.if-s-ne-ACCEPTED.false) in
-    let h = long in search rules
+    search rules
 
 pub begin-requires : goal.begin-requires
 begin-requires c =

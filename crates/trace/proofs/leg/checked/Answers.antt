@@ -4,8 +4,8 @@ use Rattle.trace.proofs.leg.checked.Goals as goal
 
 pub returns-then-leg_finite : goal.returns-then-leg_finite
 unfolding leg_finite
-returns-then-leg_finite c = let c1 = c in rw (← c1.leg_finite.ensures, c.if-leg_finite.true)
+returns-then-leg_finite c = rw (← c.leg_finite.ensures, c.if-leg_finite.true)
 
 pub returns-else-leg_finite : goal.returns-else-leg_finite
 unfolding leg_finite
-returns-else-leg_finite c = let c1 = c in rw (← c1.leg_finite.ensures, c.if-leg_finite.false)
+returns-else-leg_finite c = rw (← c.leg_finite.ensures, c.if-leg_finite.false)

@@ -11,4 +11,4 @@ int_to_float-result c = search rules
 
 pub returns : goal.returns
 unfolding hit_row decimal of_bits
-returns c = let c1 = c in rw (← c1.truth.ensures)
+returns c = rw (← c.truth.ensures)

@@ -16,12 +16,9 @@ enum_known-e c = search rules
 pub returns-in-Given : goal.returns-in-Given
 unfolding leg_of
 returns-in-Given c =
-    let c2 = c in let c6 = c2 in let c8 = c6 in
-    let c9 = c8 in
-    rw (← c9.boundary.ensures, ← c8.turn.ensures, c6.in-Given.is, ← c2.share.ensures, ← c.checked.ensures)
+    rw (← c.boundary.ensures, ← c.turn.ensures, c.in-Given.is, ← c.share.ensures, ← c.checked.ensures)
 
 pub returns-in-Refused : goal.returns-in-Refused
 unfolding leg_of
 returns-in-Refused c =
-    let c1 = c in let c3 = c1 in let c4 = c3 in
-    rw (← c4.boundary.ensures, ← c3.turn.ensures, c1.in-Refused.is, never_done, never_done)
+    rw (← c.boundary.ensures, ← c.turn.ensures, c.in-Refused.is, never_done, never_done)

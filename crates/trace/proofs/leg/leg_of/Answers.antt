@@ -15,8 +15,8 @@ enum_known-x-in-Refused-1 c = search rules
 
 pub returns-in-Given : goal.returns-in-Given
 unfolding leg_of
-returns-in-Given c = let c2 = c in rw (c2.in-Given.is, ← c.landed.ensures)
+returns-in-Given c = rw (c.in-Given.is, ← c.landed.ensures)
 
 pub returns-in-Refused : goal.returns-in-Refused
 unfolding leg_of
-returns-in-Refused c = let c1 = c in rw (c1.in-Refused.is, never_done, never_done)
+returns-in-Refused c = rw (c.in-Refused.is, never_done, never_done)

@@ -15,10 +15,9 @@ enum_known-e-in-Refused-1 c = search rules
 
 pub returns-in-Given : goal.returns-in-Given
 unfolding row_of
-returns-in-Given c = let c2 = c in rw (c2.in-Given.is, ← c.hit_row.ensures)
+returns-in-Given c = rw (c.in-Given.is, ← c.hit_row.ensures)
 
 pub returns-in-Refused : goal.returns-in-Refused
 unfolding row_of
 returns-in-Refused c =
-    let c1 = c in let c3 = c1 in
-    rw (c3.in-Refused.is, never_done, ← c1.line_of.ensures, ← c.refusal_row.ensures)
+    rw (c.in-Refused.is, never_done, ← c.line_of.ensures, ← c.refusal_row.ensures)

@@ -6,9 +6,8 @@ use Rattle.trace.proofs.leg.share.Goals as goal
 pub returns-then-number-eq0 : goal.returns-then-number-eq0
 unfolding share
 returns-then-number-eq0 c =
-    let c1 = c in let c4 = c1 in
-    rw (eq-eqb _ _ c4.if-number-eq0.true, ← c1.length.ensures)
+    rw (eq-eqb _ _ c.if-number-eq0.true, ← c.length.ensures)
 
 pub returns-else-number-eq0 : goal.returns-else-number-eq0
 unfolding share
-returns-else-number-eq0 c = let c1 = c in rw (ne_eqb _ _ c1.if-number-eq0.false)
+returns-else-number-eq0 c = rw (ne_eqb _ _ c.if-number-eq0.false)

@@ -13,19 +13,17 @@ returns-then-n-ne-ACCEPTED c = rw (← c.ray_admission-n.ensures, ne_eqb _ 1 c.i
 pub returns-then-room-count : goal.returns-then-room-count
 unfolding admission
 returns-then-room-count c =
-    let a = c in
     rw (
-      ← a.ray_admission-n.ensures,
+      ← c.ray_admission-n.ensures,
       eq-eqb _ 1 c.if-n-ne-ACCEPTED.false,
-      lt-ltb a.args.room (width * a.args.count) (let h = c.if-room-count.true in omega arith),
+      lt-ltb c.args.room (width * c.args.count) (let h = c.if-room-count.true in omega arith),
     )
 
 pub returns-else-room-count : goal.returns-else-room-count
 unfolding admission
 returns-else-room-count c =
-    let a = c in
     rw (
-      ← a.ray_admission-n.ensures,
+      ← c.ray_admission-n.ensures,
       c.if-n-ne-ACCEPTED.false,
-      le-ltb a.args.room (width * a.args.count) (let h = c.if-room-count.false in omega arith),
+      le-ltb c.args.room (width * c.args.count) (let h = c.if-room-count.false in omega arith),
     )

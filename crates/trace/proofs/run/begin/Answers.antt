@@ -12,22 +12,25 @@ overflow_add-base c = search rules
 
 pub returns-then-c-ne-ACCEPTED : goal.returns-then-c-ne-ACCEPTED
 unfolding begun_of decimal of_bits
-returns-then-c-ne-ACCEPTED c = let c2 = c in rw (ne_eqb _ _ c2.if-c-ne-ACCEPTED.true, ← c.refused.ensures)
+returns-then-c-ne-ACCEPTED c = rw (ne_eqb _ _ c.if-c-ne-ACCEPTED.true, ← c.refused.ensures)
 
 pub returns-then-n-ne-ACCEPTED : goal.returns-then-n-ne-ACCEPTED
 unfolding begun_of decimal of_bits
 returns-then-n-ne-ACCEPTED c =
-    let c1 = c in let c2 = c1 in let c3 = c2 in
-    rw (eq-eqb _ _ c3.if-c-ne-ACCEPTED.false, ← c2.admission-n.ensures, ne_eqb _ _ c1.if-n-ne-ACCEPTED.true, ← c.refused-then-n-ne-ACCEPTED.ensures)
+    rw (
+      eq-eqb _ _ c.if-c-ne-ACCEPTED.false,
+      ← c.admission-n.ensures,
+      ne_eqb _ _ c.if-n-ne-ACCEPTED.true,
+      ← c.refused-then-n-ne-ACCEPTED.ensures,
+    )
 
 pub returns : goal.returns
 unfolding begun_of decimal of_bits
 returns c =
-    let c1 = c in let c2 = c1 in let c3 = c2 in let c4 = c3 in
     rw (
-      eq-eqb _ _ c4.if-c-ne-ACCEPTED.false,
-      ← c3.admission-n.ensures,
-      eq-eqb _ _ c2.if-n-ne-ACCEPTED.false,
-      ← c1.outcome_at.ensures,
+      eq-eqb _ _ c.if-c-ne-ACCEPTED.false,
+      ← c.admission-n.ensures,
+      eq-eqb _ _ c.if-n-ne-ACCEPTED.false,
+      ← c.outcome_at.ensures,
       ← c.before_first.ensures,
     )

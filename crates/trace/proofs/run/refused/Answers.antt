@@ -6,4 +6,4 @@ use Rattle.trace.proofs.run.refused.Goals as goal
 
 pub returns : goal.returns
 unfolding refused_answer decimal of_bits
-returns c = let c1 = c in rw (← c1.no_ray.ensures, ← c.before_first.ensures)
+returns c = rw (← c.no_ray.ensures, ← c.before_first.ensures)

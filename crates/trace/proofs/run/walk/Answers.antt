@@ -28,8 +28,8 @@ use Rattle.trace.proofs.run.walk.Goals.{in-Given, in-Refused}
 
 -- on one surface: behind the reading of its record r and behind its passes p
 module _ {b : List ℕ} {count first allowed : ℕ} {s₀ : State} (y₀ : List Float) {s : State} {y : List Float} {left : ℕ}
-    (p : Progress) (k : Keeps b count first allowed (held s₀ (blanks first ++ y₀)) s y left) (run : s.outcome ≡ 0) (some : 0 < left)
-    {r : ReadRecord} (reads : r ≡ read_at b s.place)
+    (p : Progress) (k : Keeps b count first allowed (held s₀ (blanks first ++ y₀)) s y left)
+    (run : s.outcome ≡ 0) (some : 0 < left) {r : ReadRecord} (reads : r ≡ read_at b s.place)
     (chains : told_progress s.passes p ≡ chain r.optic.surface s.beam.ray left s.passes s.t) where
   -- before the passes, with the whole buffer
   abbrev here : Held
@@ -72,38 +72,38 @@ surfaces-init c = keeps_first _ _ _ _ _ _ c.requires.0
 
 pub overflow_sub-left : goal.overflow_sub-left
 overflow_sub-left c =
-    let t = taken c.args.buf.now c.chain-progress.result c.surfaces.invariant c.if-s-ne-RUNNING.false c.surfaces-test.true
-    c.read_record-read.ensures c.chain-progress.ensures in
+    let t = taken c.args.buf.now c.chain-progress.result c.surfaces.invariant c.if-s-ne-RUNNING.false
+    c.surfaces-test.true c.read_record-read.ensures c.chain-progress.ensures in
     omega (arith, t.1)
 
 pub overflow_add-passes : goal.overflow_add-passes
 overflow_add-passes c =
-    let t = taken c.args.buf.now c.chain-progress.result c.surfaces.invariant c.if-s-ne-RUNNING.false c.surfaces-test.true
-    c.read_record-read.ensures c.chain-progress.ensures in
+    let t = taken c.args.buf.now c.chain-progress.result c.surfaces.invariant c.if-s-ne-RUNNING.false
+    c.surfaces-test.true c.read_record-read.ensures c.chain-progress.ensures in
     omega (arith, t.2)
 
 pub overflow_add-steps : goal.overflow_add-steps
 overflow_add-steps c =
-    let t = taken c.args.buf.now c.chain-progress.result c.surfaces.invariant c.if-s-ne-RUNNING.false c.surfaces-test.true
-    c.read_record-read.ensures c.chain-progress.ensures in
+    let t = taken c.args.buf.now c.chain-progress.result c.surfaces.invariant c.if-s-ne-RUNNING.false
+    c.surfaces-test.true c.read_record-read.ensures c.chain-progress.ensures in
     omega (arith, t.1, c.surfaces.invariant.runs.steps, c.requires.1, c.ranges.allowed)
 
 pub leave-s-requires : goal.leave-s-requires
 leave-s-requires c =
-    let w = roomy c.args.buf.now c.chain-progress.result c.surfaces.invariant c.if-s-ne-RUNNING.false c.surfaces-test.true
-    c.read_record-read.ensures c.chain-progress.ensures in
+    let w = roomy c.args.buf.now c.chain-progress.result c.surfaces.invariant c.if-s-ne-RUNNING.false
+    c.surfaces-test.true c.read_record-read.ensures c.chain-progress.ensures in
     (keeps_room _ _ _ _ _ _ c.surfaces.invariant w.0, omega (arith, w.1, c.ranges.count))
 
 pub surfaces-smaller : goal.surfaces-smaller
 surfaces-smaller c =
-    let t = taken c.args.buf.now c.chain-progress.result c.surfaces.invariant c.if-s-ne-RUNNING.false c.surfaces-test.true
-    c.read_record-read.ensures c.chain-progress.ensures in
+    let t = taken c.args.buf.now c.chain-progress.result c.surfaces.invariant c.if-s-ne-RUNNING.false
+    c.surfaces-test.true c.read_record-read.ensures c.chain-progress.ensures in
     omega (arith, t.0, t.1)
 
 pub surfaces-preserved : goal.surfaces-preserved
 surfaces-preserved c =
-    let at = left_at c.args.buf.now c.chain-progress.result c.surfaces.invariant c.if-s-ne-RUNNING.false c.surfaces-test.true
-    c.read_record-read.ensures c.chain-progress.ensures in
+    let at = left_at c.args.buf.now c.chain-progress.result c.surfaces.invariant c.if-s-ne-RUNNING.false
+    c.surfaces-test.true c.read_record-read.ensures c.chain-progress.ensures in
     let came = c.leave-s.ensures _ c.surfaces.invariant.kept in
     elim c.match-passed.branch [
       | in-Given w ↦ at c.match-passed.crossing (ap told_passed w.in-Given.is ∙ ap told_crossing (sym w.crossing-is))
@@ -139,5 +139,5 @@ returns-in-Again c =
     let e = ap told_passed c.in-Again.is in
     ap (λ (q : State). held q c.surfaces.buf) c.paused-s.ensures
     ∙ ap (λ (x : Told Landing). held (paused_at s (s.passes + n) x.value.t (s.steps + n)) c.surfaces.buf) (sym e)
-    ∙ stays c.args.buf.now c.chain-progress.result c.surfaces.invariant c.if-s-ne-RUNNING.false c.surfaces-test.true
-    c.read_record-read.ensures c.chain-progress.ensures (ap going e)
+    ∙ stays c.args.buf.now c.chain-progress.result c.surfaces.invariant c.if-s-ne-RUNNING.false
+    c.surfaces-test.true c.read_record-read.ensures c.chain-progress.ensures (ap going e)

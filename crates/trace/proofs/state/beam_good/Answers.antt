@@ -7,5 +7,4 @@ use Rattle.trace.proofs.state.beam_good.Goals as goal
 pub returns : goal.returns
 unfolding beam_good decimal of_bits
 returns c =
-    let c1 = c in let c2 = c1 in let c3 = c2 in
-    rw (← c3.ray_finite.ensures, ← c2.is_finite.ensures, ← c1.is_finite-2.ensures)
+    rw (← c.ray_finite.ensures, ← c.is_finite.ensures, ← c.is_finite-2.ensures)

@@ -1,5 +1,6 @@
 -- The tests are those that dropping the fraction asks for; what fails one is past an end of the range. Assumes nothing.
-use Rattle.std.proofs.Common.{◌≡◌, ◌+◌, ◌-◌, ◌*◌, ◌/◌, ◌^◌, ◌≤◌, true, false, T, pos, sym, refl, subst, le-div_iff_mul-le, arith, rules, ltb-false}
+use Rattle.std.proofs.Common.{◌≡◌, ◌+◌, ◌-◌, ◌*◌, ◌/◌, ◌^◌, ◌≤◌, true, false, T, pos, sym, refl, subst}
+use Rattle.std.proofs.Common.{le-div_iff_mul-le, arith, rules, ltb-false}
 use mathlib.Core.Bool.{false≢true}
 use lib.Ieee.{Float, nan, inf, fin, up, down, of_bits, neg, lt, to_unsigned}
 use lib.Ieee.Fits.{down_pos}
@@ -31,7 +32,8 @@ above (fin false m e) l h =
 
 pub truncating_f64_to_u64-requires : goal.truncating_f64_to_u64-requires
 unfolding of_bits neg
-truncating_f64_to_u64-requires c = record { lower_bound = subst T (sym c.if-x.true) tt; upper_bound = subst T (sym c.if-x-2.true) tt }
+truncating_f64_to_u64-requires c =
+    record { lower_bound = subst T (sym c.if-x.true) tt; upper_bound = subst T (sym c.if-x-2.true) tt }
 
 pub returns-then-x-2 : goal.returns-then-x-2
 unfolding of_bits neg

@@ -1,5 +1,6 @@
 -- A refused start, or the whole trace of the bytes behind the ray. Assumes nothing.
-use Rattle.std.proofs.Common.{◌≡◌, ℕ, ◌-◌, ◌≤◌, ◌≢◌, List, length, take, sym, refl, ap, ◌∙◌, arith, length-drop, take_all, rules}
+use Rattle.std.proofs.Common.{◌≡◌, ℕ, ◌-◌, ◌≤◌, ◌≢◌, List, length, take, sym, refl, ap, ◌∙◌, arith, length-drop}
+use Rattle.std.proofs.Common.{take_all, rules}
 use lib.Ieee.{Float}
 use Rattle.recipe.specs.declared.source.Source.{Source}
 use Rattle.recipe.specs.Source.{source_bytes, source_of}
@@ -45,7 +46,8 @@ module _ (f : List ℕ) (z y : List Float) (a : Answer) (size : length z ≡ len
 
 pub returns-then-started-ne-ACCEPTED : goal.returns-then-started-ne-ACCEPTED
 returns-then-started-ne-ACCEPTED c =
-    c.put_refused.ensures ∙ ap (filled _) (refused_list _ _ _ _ refl c.start_file-started.ensures c.if-started-ne-ACCEPTED.true)
+    c.put_refused.ensures
+    ∙ ap (filled _) (refused_list _ _ _ _ refl c.start_file-started.ensures c.if-started-ne-ACCEPTED.true)
 
 pub slice_bounds-whole-count : goal.slice_bounds-whole-count
 slice_bounds-whole-count c =

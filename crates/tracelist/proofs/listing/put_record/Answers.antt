@@ -60,19 +60,16 @@ shape_of-out c = search rules
 pub returns : goal.returns
 unfolding record_line
 returns c =
-    let feed = c in
-    let slots = feed in
-    let steps-there = slots in
+    let steps-there = c in
     let steps = steps-there in
     let status-there = steps in
     let status = status-there in
     let number-there = status in
     let number = number-there in
-    let start = number in
-    let x = start.args in
-    rw feed.end_line.ensures
-    (line_put _ _ _ _ _ (omega (arith, start.requires.1, record_short x.number x.row.now start.requires.0))
+    let x = number.args in
+    rw c.end_line.ensures
+    (line_put _ _ _ _ _ (omega (arith, number.requires.1, record_short x.number x.row.now number.requires.0))
     (one_put _ _ _ _ _ number.put_count-end.ensures
     (one_put _ _ _ _ _ (rw status.count.ensures at status.put_count-end-2.ensures)
     (one_put _ _ _ _ _ (rw steps.count-2.ensures at steps.put_count-end-3.ensures)
-    (slots.put_floats-end.ensures ∙ floats_put _ _)))))
+    (c.put_floats-end.ensures ∙ floats_put _ _)))))

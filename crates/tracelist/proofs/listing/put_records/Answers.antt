@@ -1,5 +1,6 @@
 -- At each turn the lines that are left, behind those before them, come to the same. Assumes nothing.
-use Rattle.std.proofs.Common.{◌≡◌, ℕ, suc, ◌+◌, ◌-◌, ◌*◌, ◌<◌, ◌≤◌, List, ◌++◌, length, take, drop, sym, refl, ap, ◌∙◌, add-zero, add-one, arith, length-drop, length-take, drop-drop, rules}
+use Rattle.std.proofs.Common.{◌≡◌, ℕ, suc, ◌+◌, ◌-◌, ◌*◌, ◌<◌, ◌≤◌, List, ◌++◌, length, take, drop, sym, refl, ap, ◌∙◌}
+use Rattle.std.proofs.Common.{add-zero, add-one, arith, length-drop, length-take, drop-drop, rules}
 use native.Mathlib.Nat.{sub-zero}
 use lib.Ieee.{Float}
 use Rattle.trace.specs.Leg.{width}
@@ -48,23 +49,18 @@ loop-i-init c = (search rules, search rules, refl, rw sub-zero)
 
 pub put_record-end-requires : goal.put_record-end-requires
 put_record-end-requires c =
-    let turn = c in
-    let start = turn in
-    let x = start.args in
-    let i = turn.loop-i.i in
-    (row_width x.results.now x.count i turn.loop-i-test.true start.requires.0, search rules)
+    let x = c.args in
+    let i = c.loop-i.i in
+    (row_width x.results.now x.count i c.loop-i-test.true c.requires.0, search rules)
 
 pub loop-i-preserved : goal.loop-i-preserved
 loop-i-preserved c =
-    let called = c in
-    let turn = called in
-    let at = turn.loop-i in
-    let start = turn in (
+    let at = c.loop-i in (
       search rules,
-      within _ _ at.i _ _ turn.loop-i-test.true start.requires.0 _ called.put_record-end.ensures at.invariant.1,
+      within _ _ at.i _ _ c.loop-i-test.true c.requires.0 _ c.put_record-end.ensures at.invariant.1,
       search rules,
-      one_more _ _ at.i _ _ turn.loop-i-test.true _ called.put_record-end.ensures ∙ at.invariant.3,
+      one_more _ _ at.i _ _ c.loop-i-test.true _ c.put_record-end.ensures ∙ at.invariant.3,
     )
 
 pub returns : goal.returns
-returns c = let at = c in all_put _ _ at.loop-i.i _ _ (search rules) ∙ at.loop-i.invariant.3
+returns c = all_put _ _ c.loop-i.i _ _ (search rules) ∙ c.loop-i.invariant.3

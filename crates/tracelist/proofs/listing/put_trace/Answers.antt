@@ -29,9 +29,6 @@ put_end-requires c = omega (arith, rows_within _ _ _ _ (omega arith) c.put_recor
 pub returns : goal.returns
 unfolding state_lines
 returns c =
-    let records = c in
-    let count = records in
-    let start = count in
-    let short = state_short start.args.results.now start.args.s start.requires (search rules) in
-    both_written _ _ _ _ _ _ (rw count.records_of.ensures at records.put_records-end.ensures) c.put_end.ensures
+    let short = state_short c.args.results.now c.args.s c.requires (search rules) in
+    both_written _ _ _ _ _ _ (rw c.records_of.ensures at c.put_records-end.ensures) c.put_end.ensures
     ∙ written_filled _ _ (omega arith)

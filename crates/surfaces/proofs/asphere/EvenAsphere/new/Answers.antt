@@ -7,9 +7,8 @@ use Rattle.surfaces.proofs.asphere.EvenAsphere.new.Goals as goal
 pub returns-then-is_good-semi : goal.returns-then-is_good-semi
 unfolding new_even_answer decimal of_bits
 returns-then-is_good-semi c =
-    let c1 = c in let c2 = c1 in
-    rw (← c2.is_good.ensures, c1.if-is_good-semi.true, ← c.no_coefficients.ensures)
+    rw (← c.is_good.ensures, c.if-is_good-semi.true, ← c.no_coefficients.ensures)
 
 pub returns : goal.returns
 unfolding new_even_answer decimal of_bits
-returns c = let c1 = c in rw (← c1.is_good.ensures, c.if-is_good-semi.false)
+returns c = rw (← c.is_good.ensures, c.if-is_good-semi.false)

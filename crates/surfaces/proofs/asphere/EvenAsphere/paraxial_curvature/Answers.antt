@@ -6,10 +6,9 @@ use Rattle.surfaces.proofs.asphere.EvenAsphere.paraxial_curvature.Goals as goal
 
 pub returns-then-not-is_good : goal.returns-then-not-is_good
 unfolding even_paraxial_answer decimal of_bits
-returns-then-not-is_good c = let c1 = c in rw (← c1.is_good.ensures, c.if-not-is_good.true)
+returns-then-not-is_good c = rw (← c.is_good.ensures, c.if-not-is_good.true)
 
 pub returns : goal.returns
 unfolding even_paraxial_answer decimal of_bits
 returns c =
-    let c2 = c in let c4 = c2 in let c5 = c4 in
-    rw (← c5.is_good.ensures, c4.if-not-is_good.false, ← c2.first_or_zero.ensures, ← c.checked_number.ensures)
+    rw (← c.is_good.ensures, c.if-not-is_good.false, ← c.first_or_zero.ensures, ← c.checked_number.ensures)

@@ -5,17 +5,15 @@ use Rattle.surfaces.proofs.asphere.EvenAsphere.sag.Goals as goal
 pub returns-then-not-is_finite-is_good : goal.returns-then-not-is_finite-is_good
 unfolding even_sag_answer
 returns-then-not-is_finite-is_good c =
-    let c1 = c in let c2 = c1 in
-    rw (← c2.is_finite.ensures, ← c1.is_good.ensures, c.if-not-is_finite-is_good.true)
+    rw (← c.is_finite.ensures, ← c.is_good.ensures, c.if-not-is_finite-is_good.true)
 
 pub returns : goal.returns
 unfolding even_sag_answer
 returns c =
-    let c1 = c in let c3 = c1 in let c4 = c3 in let c5 = c4 in
     rw (
-      ← c5.is_finite.ensures,
-      ← c4.is_good.ensures,
-      c3.if-not-is_finite-is_good.false,
-      ← c1.raw_even_sag.ensures,
+      ← c.is_finite.ensures,
+      ← c.is_good.ensures,
+      c.if-not-is_finite-is_good.false,
+      ← c.raw_even_sag.ensures,
       ← c.checked_sag.ensures,
     )

@@ -8,9 +8,13 @@ use Rattle.surfaces.proofs.asphere.OddAsphere.new.Goals as goal
 pub returns-then-is_good-semi : goal.returns-then-is_good-semi
 unfolding new_odd_answer decimal of_bits
 returns-then-is_good-semi c =
-    let c1 = c in let c2 = c1 in let c3 = c2 in
-    rw (← c3.is_good.ensures, c2.if-is_good-semi.true, c1.no_coefficients.ensures, c.no_coefficients-then-is_good-semi.ensures)
+    rw (
+      ← c.is_good.ensures,
+      c.if-is_good-semi.true,
+      c.no_coefficients.ensures,
+      c.no_coefficients-then-is_good-semi.ensures,
+    )
 
 pub returns : goal.returns
 unfolding new_odd_answer decimal of_bits
-returns c = let c1 = c in rw (← c1.is_good.ensures, c.if-is_good-semi.false)
+returns c = rw (← c.is_good.ensures, c.if-is_good-semi.false)

@@ -6,8 +6,8 @@ use Rattle.surfaces.proofs.biconic.BiconicSurface.new.Goals as goal
 
 pub returns-then-is_good-semi : goal.returns-then-is_good-semi
 unfolding new_biconic_answer decimal of_bits
-returns-then-is_good-semi c = let c1 = c in rw (← c1.is_good.ensures, c.if-is_good-semi.true)
+returns-then-is_good-semi c = rw (← c.is_good.ensures, c.if-is_good-semi.true)
 
 pub returns : goal.returns
 unfolding new_biconic_answer decimal of_bits
-returns c = let c1 = c in rw (← c1.is_good.ensures, c.if-is_good-semi.false)
+returns c = rw (← c.is_good.ensures, c.if-is_good-semi.false)

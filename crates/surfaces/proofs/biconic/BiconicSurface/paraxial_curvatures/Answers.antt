@@ -4,10 +4,9 @@ use Rattle.surfaces.proofs.biconic.BiconicSurface.paraxial_curvatures.Goals as g
 
 pub returns-then-not-is_good : goal.returns-then-not-is_good
 unfolding biconic_paraxial_answer
-returns-then-not-is_good c = let c1 = c in rw (← c1.is_good.ensures, c.if-not-is_good.true)
+returns-then-not-is_good c = rw (← c.is_good.ensures, c.if-not-is_good.true)
 
 pub returns : goal.returns
 unfolding biconic_paraxial_answer
 returns c =
-    let c1 = c in let c2 = c1 in
-    rw (← c2.is_good.ensures, c1.if-not-is_good.false, ← c.checked_pair.ensures)
+    rw (← c.is_good.ensures, c.if-not-is_good.false, ← c.checked_pair.ensures)

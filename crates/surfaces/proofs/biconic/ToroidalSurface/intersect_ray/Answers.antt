@@ -6,17 +6,15 @@ use Rattle.surfaces.proofs.biconic.ToroidalSurface.intersect_ray.Goals as goal
 pub returns-then-not-can_be_met : goal.returns-then-not-can_be_met
 unfolding toroid_crossing_answer
 returns-then-not-can_be_met c =
-    let c1 = c in let c2 = c1 in
-    rw (← c2.is_good.ensures, ← c1.can_be_met.ensures, c.if-not-can_be_met.true)
+    rw (← c.is_good.ensures, ← c.can_be_met.ensures, c.if-not-can_be_met.true)
 
 pub returns : goal.returns
 unfolding toroid_crossing_answer
 returns c =
-    let c1 = c in let c3 = c1 in let c4 = c3 in let c5 = c4 in
     rw (
-      ← c5.is_good.ensures,
-      ← c4.can_be_met.ensures,
-      c3.if-not-can_be_met.false,
-      ← c1.newton.ensures,
+      ← c.is_good.ensures,
+      ← c.can_be_met.ensures,
+      c.if-not-can_be_met.false,
+      ← c.newton.ensures,
       ← c.checked_crossing.ensures,
     )

@@ -7,17 +7,14 @@ use Rattle.surfaces.proofs.conic.ConicSurface.from_curvature.Goals as goal
 pub returns-then-is_nan : goal.returns-then-is_nan
 unfolding from_curvature_answer decimal of_bits
 returns-then-is_nan c =
-    let c1 = c in let c2 = c1 in let c3 = c2 in
-    rw (← c3.is_nan.ensures, ← c2.is_nan-2.ensures, ← c1.is_nan-3.ensures, c.if-is_nan.true)
+    rw (← c.is_nan.ensures, ← c.is_nan-2.ensures, ← c.is_nan-3.ensures, c.if-is_nan.true)
 
 pub returns-then-semi : goal.returns-then-semi
 unfolding from_curvature_answer decimal of_bits
 returns-then-semi c =
-    let c1 = c in let c2 = c1 in let c3 = c2 in let c4 = c3 in
-    rw (← c4.is_nan.ensures, ← c3.is_nan-2.ensures, ← c2.is_nan-3.ensures, c1.if-is_nan.false, c.if-semi.true)
+    rw (← c.is_nan.ensures, ← c.is_nan-2.ensures, ← c.is_nan-3.ensures, c.if-is_nan.false, c.if-semi.true)
 
 pub returns : goal.returns
 unfolding from_curvature_answer decimal of_bits
 returns c =
-    let c1 = c in let c2 = c1 in let c3 = c2 in let c4 = c3 in
-    rw (← c4.is_nan.ensures, ← c3.is_nan-2.ensures, ← c2.is_nan-3.ensures, c1.if-is_nan.false, c.if-semi.false)
+    rw (← c.is_nan.ensures, ← c.is_nan-2.ensures, ← c.is_nan-3.ensures, c.if-is_nan.false, c.if-semi.false)

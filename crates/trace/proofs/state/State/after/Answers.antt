@@ -22,9 +22,8 @@ enum_known-e-in-Refused-1 c = search rules
 pub returns-in-Given : goal.returns-in-Given
 unfolding state_after decimal of_bits
 returns-in-Given c =
-    let c1 = c in let c4 = c1 in
-    rw (c4.in-Given.is, ← c1.beam_after.ensures, ← c.outcome_at.ensures)
+    rw (c.in-Given.is, ← c.beam_after.ensures, ← c.outcome_at.ensures)
 
 pub returns-in-Refused : goal.returns-in-Refused
 unfolding state_after decimal of_bits
-returns-in-Refused c = let c2 = c in rw (c2.in-Refused.is, never_done, ← c.line_of-l.ensures)
+returns-in-Refused c = rw (c.in-Refused.is, never_done, ← c.line_of-l.ensures)

@@ -5,8 +5,8 @@ use Rattle.trace.proofs.state.State.passes_fit.Goals as goal
 
 pub returns-then-self-eq-RUNNING : goal.returns-then-self-eq-RUNNING
 unfolding passes_fit
-returns-then-self-eq-RUNNING c = let c2 = c in rw (eq-eqb _ _ c2.if-self-eq-RUNNING.true)
+returns-then-self-eq-RUNNING c = rw (eq-eqb _ _ c.if-self-eq-RUNNING.true)
 
 pub returns-else-self-eq-RUNNING : goal.returns-else-self-eq-RUNNING
 unfolding passes_fit
-returns-else-self-eq-RUNNING c = let c1 = c in rw (ne_eqb _ _ c1.if-self-eq-RUNNING.false)
+returns-else-self-eq-RUNNING c = rw (ne_eqb _ _ c.if-self-eq-RUNNING.false)

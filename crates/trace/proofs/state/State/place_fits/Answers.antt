@@ -5,8 +5,8 @@ use Rattle.trace.proofs.state.State.place_fits.Goals as goal
 
 pub returns-then-self-eq-DONE : goal.returns-then-self-eq-DONE
 unfolding place_fits
-returns-then-self-eq-DONE c = let c3 = c in rw (eq-eqb _ _ c3.if-self-eq-DONE.true)
+returns-then-self-eq-DONE c = rw (eq-eqb _ _ c.if-self-eq-DONE.true)
 
 pub returns-else-self-eq-DONE : goal.returns-else-self-eq-DONE
 unfolding place_fits
-returns-else-self-eq-DONE c = let c4 = c in rw (ne_eqb _ _ c4.if-self-eq-DONE.false)
+returns-else-self-eq-DONE c = rw (ne_eqb _ _ c.if-self-eq-DONE.false)

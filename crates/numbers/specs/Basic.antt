@@ -1,5 +1,5 @@
--- Absolute value, maximum, clamp and kinds of a binary64. Definitions only. (A NaN is `lib.Ieee`'s `is_nan`, a finite
--- number `lib.Ieee.Scale`'s `finite`.)
+-- Absolute value, maximum, clamp and kinds of a binary64. Definitions only. (A NaN is std's `is_nan`, a finite number its
+-- `Float.Ieee.Scale.finite`.)
 use Rattle.std.specs.Prelude.{Bool, true, false, is_nan, if◌then◌else◌}
 use lib.Ieee.{Float, nan, inf, fin}
 use Rattle.numbers.specs.Arithmetic.{◌<₆₄◌, 0f, 1f}

@@ -268,8 +268,8 @@ not_later h m k e = true≢false (sym h ∙ ap later e ∙ k)
 six_not_seven : ◌≢◌ {A = ℕ} 6 7
 six_not_seven h = true≢false (ap (eqb 6) h)
 
-module _ {A : Type 0} (ray : Ray) (s : ConicSurface) (blank : A) (tOf : A → Float) where
-  without : Never ray s → ByFirst ray s tOf (refused blank (plain 6))
+module _ {A : Type 0} (ray : Ray) (s : ConicSurface) (blank : A) (t_of : A → Float) where
+  without : Never ray s → ByFirst ray s t_of (refused blank (plain 6))
   without n = record {
     missed = ((λ h. n), (λ h. refl));
     beyond = ((λ h. absurd (six_not_seven h)), (λ h. absurd (n h.0 h.1.crosses)));
@@ -278,7 +278,7 @@ module _ {A : Type 0} (ray : Ray) (s : ConicSurface) (blank : A) (tOf : A → Fl
   }
 
   module _ (t : Float) (f : First ray s t) where
-    beyond : (s.semi <₆₄ r_at ray t) ≡ true → ByFirst ray s tOf (refused blank (vignetted (r_at ray t) s.semi))
+    beyond : (s.semi <₆₄ r_at ray t) ≡ true → ByFirst ray s t_of (refused blank (vignetted (r_at ray t) s.semi))
     beyond h = record {
       missed = ((λ k. absurd (six_not_seven (sym k))), (λ n. absurd (n t f.crosses)));
       beyond = ((λ k. (t, f, h)), (λ k. refl));
@@ -287,7 +287,7 @@ module _ {A : Type 0} (ray : Ray) (s : ConicSurface) (blank : A) (tOf : A → Fl
     }
 
     within : (s.semi <₆₄ r_at ray t) ≡ false → (x : Told A) → later x.line.number ≡ true →
-        (done x ≡ true → tOf x.value ≡ t) → ByFirst ray s tOf x
+        (done x ≡ true → t_of x.value ≡ t) → ByFirst ray s t_of x
     unfolding one_of
     within h x l at =
         let clash : (u : Float) → First ray s u → (s.semi <₆₄ r_at ray u) ≡ true → ⊥ =
@@ -305,11 +305,11 @@ abbrev pub from_landing : {A B : Type 0} → A → (A → Bool) → (Landing →
 from_landing blank fine next make x =
     checked9 blank fine (after blank x (λ l. after blank (next l) (λ v. gives (make l v))))
 
-module _ {A B : Type 0} (ray : Ray) (s : ConicSurface) (blank : A) (fine : A → Bool) (tOf : A → Float)
-    (next : Landing → Told B) (make : Landing → B → A) (at : (l : Landing) (v : B) → tOf (make l v) ≡ l.t)
+module _ {A B : Type 0} (ray : Ray) (s : ConicSurface) (blank : A) (fine : A → Bool) (t_of : A → Float)
+    (next : Landing → Told B) (make : Landing → B → A) (at : (l : Landing) (v : B) → t_of (make l v) ≡ l.t)
     (on : (l : Landing) → later (next l).line.number ≡ true) where
   abbrev tells : Told Landing → Type 0
-  tells x = ByFirst ray s tOf (from_landing blank fine next make x)
+  tells x = ByFirst ray s t_of (from_landing blank fine next make x)
 
   told_within : (t : Float) → First ray s t → (s.semi <₆₄ r_at ray t) ≡ false →
       tells (gives (landing t (point_at ray t)))
@@ -318,20 +318,20 @@ module _ {A B : Type 0} (ray : Ray) (s : ConicSurface) (blank : A) (fine : A →
       let l = landing t (point_at ray t) in
       let w = next l in
       let g = make l w.value in
-      let on-first = within ray s blank tOf t f h in
-      by_test (λ y. ByFirst ray s tOf (checked9 blank fine y)) (done w) (gives g) (refused blank w.line)
+      let on-first = within ray s blank t_of t f h in
+      by_test (λ y. ByFirst ray s t_of (checked9 blank fine y)) (done w) (gives g) (refused blank w.line)
       (λ e.
-      either (ByFirst ray s tOf) (not (fine g)) _ _
+      either (ByFirst ray s t_of) (not (fine g)) _ _
       (on-first (refused blank (plain 9)) refl (λ k. absurd (false≢true k)))
       (on-first (gives g) refl (λ k. at l w.value)))
       (λ e. rw e (on-first (refused blank w.line) (on l) (λ k. absurd (false≢true (sym e ∙ k)))))
 
   by_least : {x : Told Landing} → Least (no_crossing 6) (lands_at ray s) (Crosses ray s) x → tells x
   unfolding landed_within
-  by_least (nothing n) = without ray s blank tOf n
+  by_least (nothing n) = without ray s blank t_of n
   by_least (least t c n) =
       let f : First ray s t = record { crosses = c; none_smaller = n } in
-      by_test tells (s.semi <₆₄ r_at ray t) _ _ (beyond ray s blank tOf t f) (told_within t f)
+      by_test tells (s.semi <₆₄ r_at ray t) _ _ (beyond ray s blank t_of t f) (told_within t f)
 
   pub told_by_first : (magnitude s.curvature <₆₄ 1e-15) ≡ false → tells (conic_crossing ray s)
   told_by_first c = by_least (crossed ray s c)

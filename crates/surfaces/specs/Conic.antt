@@ -54,12 +54,12 @@ conic_edge = 0f
 -- the Rust's conic_sag
 unfoldable pub conic_sag : Float → Float → Float → Told Float
 conic_sag r c k =
-    let rSq = r *₆₄ r in
-    let radicand = 1f -₆₄ conic_factor c k *₆₄ rSq in
+    let r_sq = r *₆₄ r in
+    let radicand = 1f -₆₄ conic_factor c k *₆₄ r_sq in
     if not (finite r && finite c && finite k) then no_number 4 else
     if (magnitude c <₆₄ 1e-15) || (magnitude r <₆₄ 1e-15) then gives 0f else
     if radicand <₆₄ conic_edge then no_number 5 else
-    gives ((c *₆₄ rSq) /₆₄ (1f +₆₄ root radicand))
+    gives ((c *₆₄ r_sq) /₆₄ (1f +₆₄ root radicand))
 
 unfoldable pub conic_sag_answer : Float → Float → Float → Told Float
 conic_sag_answer r c k = checked9 0f finite (conic_sag r c k)
@@ -71,10 +71,10 @@ gradient_normal p s =
     let k = s.conic in
     let radicand = 1f -₆₄ (1f +₆₄ k) *₆₄ c *₆₄ c *₆₄ (p.x *₆₄ p.x +₆₄ p.y *₆₄ p.y) in
     let g = vec (c *₆₄ p.x) (c *₆₄ p.y) ((1f +₆₄ k) *₆₄ c *₆₄ (p.z -₆₄ s.vertex) -₆₄ 1f) in
-    let gSq = squared_length g in
+    let g_sq = squared_length g in
     if radicand <₆₄ 0f then no_direction 5 else
-    if (gSq <₆₄ 1e-30) || not (finite gSq) then no_direction 4 else
-    gives (over_of g (root gSq))
+    if (g_sq <₆₄ 1e-30) || not (finite g_sq) then no_direction 4 else
+    gives (over_of g (root g_sq))
 
 -- the Rust's conic_normal
 unfoldable pub conic_normal : Vec3 → ConicSurface → Told Vec3

@@ -54,8 +54,8 @@ pub record First (ray : Ray) (s : ConicSurface) (t : Float) : Type 0 where
 abbrev pub Never : Ray → ConicSurface → Type 0
 Never ray s = (t : Float) → Crosses ray s t → ⊥
 
--- What an answer x says of the crossings. `tOf` is the t of a hit.
-pub record ByFirst {A : Type 0} (ray : Ray) (s : ConicSurface) (tOf : A → Float) (x : Told A) : Type 0 where
+-- What an answer x says of the crossings. `t_of` is the t of a hit.
+pub record ByFirst {A : Type 0} (ray : Ray) (s : ConicSurface) (t_of : A → Float) (x : Told A) : Type 0 where
   -- 6 exactly if there is none
   pub missed : (x.line.number ≡ 6) ↔ Never ray s
   -- 7 exactly if the first is beyond the semi-diameter, whatever lies behind it, and with its r
@@ -63,7 +63,7 @@ pub record ByFirst {A : Type 0} (ray : Ray) (s : ConicSurface) (tOf : A → Floa
   pub with_its_r : (t : Float) → First ray s t → (s.semi <₆₄ r_at ray t) ≡ true
       → x.line ≡ vignetted (r_at ray t) s.semi
   -- a hit is on the first
-  pub hit : done x ≡ true → First ray s (tOf x.value)
+  pub hit : done x ≡ true → First ray s (t_of x.value)
 
 -- what is answered at t: 7 if r is beyond the semi-diameter, else the normal's refusal, else 9, else a hit
 unfoldable pub meet_at : Ray → ConicSurface → Float → Told HitRecord

@@ -26,11 +26,11 @@ mirrored i n =
 -- the Rust's reflect
 unfoldable pub reflected : Vec3 → Vec3 → Told Vec3
 reflected i n =
-    let iSq = squared_length i in
-    let nSq = squared_length n in
+    let i_sq = squared_length i in
+    let n_sq = squared_length n in
     if not (all_finite i && all_finite n) then no_direction 4 else
-    if (iSq <₆₄ 1e-30) || (nSq <₆₄ 1e-30) then no_direction 4 else
-    gives (mirrored (over_of i (root iSq)) (over_of n (root nSq)))
+    if (i_sq <₆₄ 1e-30) || (n_sq <₆₄ 1e-30) then no_direction 4 else
+    gives (mirrored (over_of i (root i_sq)) (over_of n (root n_sq)))
 
 unfoldable pub reflect_answer : Vec3 → Vec3 → Told Vec3
 reflect_answer i n = checked9 zeros all_finite (reflected i n)
@@ -40,21 +40,21 @@ unfoldable pub bent : Vec3 → Vec3 → Float → Told Vec3
 bent i n eta =
     let d = neg (dot_of i n) in
     let m = turned_if (d <₆₄ 0f) n in
-    let cosI = clamped (negated_if (d <₆₄ 0f) d) in
-    let k = 1f -₆₄ eta *₆₄ eta *₆₄ larger (1f -₆₄ cosI *₆₄ cosI) 0f in
-    let w = eta *₆₄ cosI -₆₄ root k in
+    let cos_i = clamped (negated_if (d <₆₄ 0f) d) in
+    let k = 1f -₆₄ eta *₆₄ eta *₆₄ larger (1f -₆₄ cos_i *₆₄ cos_i) 0f in
+    let w = eta *₆₄ cos_i -₆₄ root k in
     if k <₆₄ 0f then no_direction 8 else
     gives (vec (eta *₆₄ i.x +₆₄ w *₆₄ m.x) (eta *₆₄ i.y +₆₄ w *₆₄ m.y) (eta *₆₄ i.z +₆₄ w *₆₄ m.z))
 
 -- the Rust's snell_refract
 unfoldable pub refracted : Vec3 → Vec3 → Float → Float → Told Vec3
 refracted i n n1 n2 =
-    let iSq = squared_length i in
-    let nSq = squared_length n in
+    let i_sq = squared_length i in
+    let n_sq = squared_length n in
     if not (all_finite i && all_finite n && finite n1 && finite n2) then no_direction 4 else
     if (n1 ≤₆₄ 0f) || (n2 ≤₆₄ 0f) then no_direction 4 else
-    if (iSq <₆₄ 1e-30) || (nSq <₆₄ 1e-30) then no_direction 4 else
-    bent (over_of i (root iSq)) (over_of n (root nSq)) (n1 /₆₄ n2)
+    if (i_sq <₆₄ 1e-30) || (n_sq <₆₄ 1e-30) then no_direction 4 else
+    bent (over_of i (root i_sq)) (over_of n (root n_sq)) (n1 /₆₄ n2)
 
 unfoldable pub refract_answer : Vec3 → Vec3 → Float → Float → Told Vec3
 refract_answer i n n1 n2 = checked9 zeros all_finite (refracted i n n1 n2)

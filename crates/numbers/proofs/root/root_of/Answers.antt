@@ -1,4 +1,4 @@
--- `numbers::root::root_of` meets its contract: each answer has the pattern of the root, as root-bits of `proofs/Scale`
+-- `numbers::root::root_of` meets its contract: each answer has the pattern of the root, as root_bits of `proofs/Scale`
 -- tells it from the nearest whole number. Assumes nothing.
 use Rattle.std.proofs.Common.{◌≡◌, ℕ, zero, suc, ◌+◌, ◌-◌, ◌*◌, ◌/◌, ◌%◌, ◌^◌, ◌<◌, ◌≤◌, not, T, sym, refl, ◌∙◌}
 use Rattle.std.proofs.Common.{mod-eq_of_lt, arith}

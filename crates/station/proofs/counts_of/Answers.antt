@@ -1,4 +1,4 @@
--- Drafted (tools/draft): opens Lent.countsOf. By the tests and the calls, in order. Assumes nothing.
+-- By the tests and the calls, in order. Assumes nothing.
 use borrow.Author.Rules.{rules}
 use mathlib.Core.Path.{refl}
 use Rattle.station.specs.Lent.{counts_of}

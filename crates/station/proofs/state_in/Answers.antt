@@ -1,4 +1,4 @@
--- Drafted (tools/draft): opens Lent.stateIn. By the tests and the calls, in order. Assumes nothing.
+-- By the tests and the calls, in order. Assumes nothing.
 use borrow.Author.Rules.{rules}
 use Rattle.station.specs.Lent.{state_in}
 use Rattle.station.proofs.state_in.Goals as goal

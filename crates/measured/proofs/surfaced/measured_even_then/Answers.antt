@@ -1,4 +1,3 @@
--- Drafted (tools/draft): opens Surfaced.evenThen; refused by surfaces.Refusals.never_done.
 -- By the tests and the calls, in order. Assumes nothing.
 use borrow.Author.Rules.{rules}
 use lib.Ieee.{of_bits}

@@ -1,4 +1,4 @@
--- Drafted (tools/draft): opens Endian.number_at. By the tests and the calls, in order. Assumes nothing.
+-- By the tests and the calls, in order. Assumes nothing.
 use borrow.Author.Rules.{rules}
 use Rattle.recipe.specs.Endian.{number_at}
 use Rattle.recipe.proofs.endian.number_at.Goals as goal

@@ -1,4 +1,4 @@
--- Drafted (tools/draft): opens Endian.u64At. By the tests and the calls, in order. Assumes nothing.
+-- By the tests and the calls, in order. Assumes nothing.
 use borrow.Author.Rules.{rules}
 use Rattle.recipe.specs.Endian.{u64_at}
 use Rattle.recipe.proofs.endian.u64_at.Goals as goal

@@ -1,4 +1,3 @@
--- Drafted (tools/draft): opens Record.evenCount, Record.oddCount.
 -- By the tests and the calls, in order. Assumes nothing.
 use borrow.Author.Rules.{rules}
 use borrow.Author.Tests.{eq-eqb, ne_eqb}

@@ -1,4 +1,4 @@
--- Drafted (tools/draft): opens Record.slot_at. By the tests and the calls, in order. Assumes nothing.
+-- By the tests and the calls, in order. Assumes nothing.
 use borrow.Author.Rules.{rules}
 use Rattle.recipe.specs.Record.{slot_at}
 use Rattle.recipe.proofs.record.slot.Goals as goal

@@ -1,4 +1,4 @@
--- Drafted (tools/draft): opens Source.isSource; tests by leb. By the tests and the calls, in order. Assumes nothing.
+-- By the tests and the calls, in order. Assumes nothing.
 use borrow.Author.Rules.{rules}
 use borrow.Author.Tests.{le-leb, lt-leb}
 use Rattle.recipe.specs.Source.{is_source}

@@ -1,4 +1,4 @@
--- Drafted (tools/draft): opens Source.vectorAt. By the tests and the calls, in order. Assumes nothing.
+-- By the tests and the calls, in order. Assumes nothing.
 use borrow.Author.Rules.{rules}
 use Rattle.recipe.specs.Source.{vector_at}
 use Rattle.recipe.proofs.source.vector.Goals as goal

@@ -1,4 +1,3 @@
--- Drafted (tools/draft): opens nothing; first Depths.even-slope _ _ _ _.
 -- By the tests and the calls, in order. Assumes nothing.
 use borrow.Author.Rules.{rules}
 use lib.Ieee.{of_bits}

@@ -1,4 +1,3 @@
--- Drafted (tools/draft): opens Asphere.oddNormal, Types.distance.
 -- By the tests and the calls, in order. Assumes nothing.
 use Rattle.surfaces.specs.Asphere.{odd_normal}
 use Rattle.surfaces.specs.Types.{distance}

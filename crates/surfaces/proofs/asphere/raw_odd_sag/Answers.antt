@@ -1,4 +1,3 @@
--- Drafted (tools/draft): opens nothing; first ← Depths.odd-sag _ _ _ _.
 -- By the tests and the calls, in order. Assumes nothing.
 use Rattle.surfaces.proofs.Depths.{odd_sag_lem}
 use Rattle.surfaces.proofs.asphere.raw_odd_sag.Goals as goal

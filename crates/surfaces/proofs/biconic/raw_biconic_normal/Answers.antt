@@ -1,4 +1,4 @@
--- Drafted (tools/draft): opens Biconic.biconicNormal. By the tests and the calls, in order. Assumes nothing.
+-- By the tests and the calls, in order. Assumes nothing.
 use Rattle.surfaces.specs.Biconic.{biconic_normal}
 use Rattle.surfaces.proofs.biconic.raw_biconic_normal.Goals as goal
 

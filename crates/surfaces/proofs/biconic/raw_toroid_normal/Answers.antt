@@ -1,4 +1,4 @@
--- Drafted (tools/draft): opens Biconic.toroidNormal. By the tests and the calls, in order. Assumes nothing.
+-- By the tests and the calls, in order. Assumes nothing.
 use Rattle.surfaces.specs.Biconic.{toroid_normal}
 use Rattle.surfaces.proofs.biconic.raw_toroid_normal.Goals as goal
 

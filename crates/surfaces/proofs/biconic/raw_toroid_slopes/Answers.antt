@@ -1,4 +1,4 @@
--- Drafted (tools/draft): opens Biconic.toroidSlopes. By the tests and the calls, in order. Assumes nothing.
+-- By the tests and the calls, in order. Assumes nothing.
 use borrow.Author.Rules.{rules}
 use Rattle.surfaces.specs.Biconic.{toroid_slopes}
 use Rattle.surfaces.proofs.biconic.raw_toroid_slopes.Goals as goal

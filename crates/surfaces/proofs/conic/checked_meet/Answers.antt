@@ -1,4 +1,3 @@
--- Drafted (tools/draft): opens Types.hitFinite; refused by Refusals.never_done.
 -- By the tests and the calls, in order. Assumes nothing.
 use borrow.Author.Rules.{rules}
 use Rattle.surfaces.specs.Types.{hit_finite}

@@ -1,4 +1,4 @@
--- Drafted (tools/draft): opens Conic.conicFinite. By the tests and the calls, in order. Assumes nothing.
+-- By the tests and the calls, in order. Assumes nothing.
 use Rattle.surfaces.specs.Conic.{conic_finite}
 use Rattle.surfaces.proofs.conic.conic_finite.Goals as goal
 

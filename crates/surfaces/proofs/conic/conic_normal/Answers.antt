@@ -1,4 +1,4 @@
--- Drafted (tools/draft): opens Conic.conicNormalAnswer. By the tests and the calls, in order. Assumes nothing.
+-- By the tests and the calls, in order. Assumes nothing.
 use Rattle.surfaces.specs.Conic.{conic_normal_answer}
 use Rattle.surfaces.proofs.conic.conic_normal.Goals as goal
 

@@ -1,4 +1,4 @@
--- Drafted (tools/draft): opens Conic.firstOn, Types.distance. By the tests and the calls, in order. Assumes nothing.
+-- By the tests and the calls, in order. Assumes nothing.
 use Rattle.surfaces.specs.Conic.{first_on}
 use Rattle.surfaces.specs.Types.{distance}
 use Rattle.surfaces.proofs.conic.cross_one.Goals as goal

@@ -1,4 +1,4 @@
--- Drafted (tools/draft): opens Conic.firstOn, Conic.ascending. By the tests and the calls, in order. Assumes nothing.
+-- By the tests and the calls, in order. Assumes nothing.
 use borrow.Author.Rules.{rules}
 use Rattle.surfaces.specs.Conic.{first_on, ascending}
 use Rattle.surfaces.proofs.conic.cross_roots.Goals as goal

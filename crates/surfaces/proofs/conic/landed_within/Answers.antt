@@ -1,4 +1,4 @@
--- Drafted (tools/draft): opens Conic.landedWithin. By the tests and the calls, in order. Assumes nothing.
+-- By the tests and the calls, in order. Assumes nothing.
 use Rattle.surfaces.specs.Conic.{landed_within}
 use Rattle.surfaces.proofs.conic.landed_within.Goals as goal
 

@@ -1,4 +1,4 @@
--- Drafted (tools/draft): opens Newton.arrivedAt, Types.distance. By the tests and the calls, in order. Assumes nothing.
+-- By the tests and the calls, in order. Assumes nothing.
 use Rattle.surfaces.specs.Newton.{arrived_at}
 use Rattle.surfaces.specs.Types.{distance}
 use Rattle.surfaces.proofs.newton.arrived.Goals as goal

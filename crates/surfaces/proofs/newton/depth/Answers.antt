@@ -1,4 +1,4 @@
--- Drafted (tools/draft): opens Parts.depth_of. By the tests and the calls, in order. Assumes nothing.
+-- By the tests and the calls, in order. Assumes nothing.
 use borrow.Author.Rules.{rules}
 use Rattle.surfaces.specs.Parts.{depth_of}
 use Rattle.surfaces.proofs.newton.depth.Goals as goal

@@ -1,5 +1,3 @@
--- Drafted (tools/draft): opens Newton.limitedPass; refused by Refusals.never-going; after enum_told Shared.kind-alone _
--- _ Types.noPolynomial _ numbers.Arithmetic.0f .1.
 -- By the tests and the calls, in order. Assumes nothing.
 use borrow.Author.Rules.{rules}
 use borrow.Author.Tests.{le-leb, lt-leb}

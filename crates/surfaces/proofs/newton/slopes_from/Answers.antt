@@ -1,4 +1,4 @@
--- Drafted (tools/draft): opens Parts.slopesFrom. By the tests and the calls, in order. Assumes nothing.
+-- By the tests and the calls, in order. Assumes nothing.
 use borrow.Author.Rules.{rules}
 use Rattle.surfaces.specs.Parts.{slopes_from}
 use Rattle.surfaces.proofs.newton.slopes_from.Goals as goal

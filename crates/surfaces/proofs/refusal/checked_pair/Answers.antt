@@ -1,4 +1,3 @@
--- Drafted (tools/draft): opens Types.bothFinite; refused by Refusals.never_done.
 -- By the tests and the calls, in order. Assumes nothing.
 use borrow.Author.Rules.{rules}
 use Rattle.surfaces.specs.Types.{both_finite}

@@ -1,4 +1,3 @@
--- Drafted (tools/draft): opens nothing; refused by Refusals.never_done.
 -- By the tests and the calls, in order. Assumes nothing.
 use Rattle.surfaces.proofs.Refusals.{never_done}
 use Rattle.surfaces.proofs.refusal.checked_sag.Goals as goal

@@ -1,4 +1,4 @@
--- Drafted (tools/draft): opens Parts.circleDepth. By the tests and the calls, in order. Assumes nothing.
+-- By the tests and the calls, in order. Assumes nothing.
 use borrow.Author.Rules.{rules}
 use Rattle.surfaces.specs.Parts.{circle_depth}
 use Rattle.surfaces.proofs.sags.circle_depth.Goals as goal

@@ -1,4 +1,4 @@
--- Drafted (tools/draft): opens Biconic.circleSlopesAt. By the tests and the calls, in order. Assumes nothing.
+-- By the tests and the calls, in order. Assumes nothing.
 use Rattle.surfaces.specs.Biconic.{circle_slopes_at}
 use Rattle.surfaces.proofs.sags.circle_slopes_at.Goals as goal
 

@@ -1,4 +1,3 @@
--- Drafted (tools/draft): opens Sags.edgeRoot; without max2 in returns-2.
 -- By the tests and the calls, in order. Assumes nothing.
 use lib.Ieee.{of_bits}
 use Rattle.numbers.specs.Arithmetic.{decimal}

@@ -1,4 +1,4 @@
--- Drafted (tools/draft): opens Parts.evenDepth. By the tests and the calls, in order. Assumes nothing.
+-- By the tests and the calls, in order. Assumes nothing.
 use borrow.Author.Rules.{rules}
 use lib.Ieee.{of_bits}
 use Rattle.numbers.specs.Arithmetic.{decimal}

@@ -1,4 +1,4 @@
--- Drafted (tools/draft): opens Parts.toroidDepth. By the tests and the calls, in order. Assumes nothing.
+-- By the tests and the calls, in order. Assumes nothing.
 use borrow.Author.Rules.{rules}
 use Rattle.surfaces.specs.Parts.{toroid_depth}
 use Rattle.surfaces.proofs.sags.toroid_depth.Goals as goal

@@ -1,4 +1,4 @@
--- Drafted (tools/draft): opens Snell.reflectAnswer. By the tests and the calls, in order. Assumes nothing.
+-- By the tests and the calls, in order. Assumes nothing.
 use Rattle.surfaces.specs.Snell.{reflect_answer}
 use Rattle.surfaces.proofs.snell.reflect.Goals as goal
 

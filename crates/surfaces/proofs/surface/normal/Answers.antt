@@ -1,4 +1,4 @@
--- Drafted (tools/draft): opens Surface.surfaceNormal. By the tests and the calls, in order. Assumes nothing.
+-- By the tests and the calls, in order. Assumes nothing.
 use borrow.Author.Rules.{rules}
 use Rattle.surfaces.specs.Surface.{surface_normal}
 use Rattle.surfaces.proofs.surface.normal.Goals as goal

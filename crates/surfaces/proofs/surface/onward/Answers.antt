@@ -1,4 +1,4 @@
--- Drafted (tools/draft): opens Surface.onwardFrom. By the tests and the calls, in order. Assumes nothing.
+-- By the tests and the calls, in order. Assumes nothing.
 use borrow.Author.Rules.{rules}
 use Rattle.surfaces.specs.Surface.{onward_from}
 use Rattle.surfaces.proofs.surface.onward.Goals as goal

@@ -1,4 +1,4 @@
--- Drafted (tools/draft): opens Types.allFinite. By the tests and the calls, in order. Assumes nothing.
+-- By the tests and the calls, in order. Assumes nothing.
 use Rattle.surfaces.specs.Types.{all_finite}
 use Rattle.surfaces.proofs.types.all_finite.Goals as goal
 

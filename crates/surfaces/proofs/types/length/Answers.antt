@@ -1,4 +1,4 @@
--- Drafted (tools/draft): opens Types.vectorLength. By the tests and the calls, in order. Assumes nothing.
+-- By the tests and the calls, in order. Assumes nothing.
 use Rattle.surfaces.specs.Types.{vector_length}
 use Rattle.surfaces.proofs.types.length.Goals as goal
 

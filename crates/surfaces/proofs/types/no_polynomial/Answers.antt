@@ -1,4 +1,3 @@
--- Drafted (tools/draft): opens nothing; forward no-coefficients, no-coefficients2.
 -- By the tests and the calls, in order. Assumes nothing.
 use Rattle.surfaces.proofs.types.no_polynomial.Goals as goal
 

@@ -1,4 +1,4 @@
--- Drafted (tools/draft): opens Types.overOf. By the tests and the calls, in order. Assumes nothing.
+-- By the tests and the calls, in order. Assumes nothing.
 use mathlib.Core.Path.{refl}
 use Rattle.surfaces.specs.Types.{over_of}
 use Rattle.surfaces.proofs.types.over.Goals as goal

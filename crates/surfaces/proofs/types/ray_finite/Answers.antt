@@ -1,4 +1,4 @@
--- Drafted (tools/draft): opens Types.rayFinite. By the tests and the calls, in order. Assumes nothing.
+-- By the tests and the calls, in order. Assumes nothing.
 use Rattle.surfaces.specs.Types.{ray_finite}
 use Rattle.surfaces.proofs.types.ray_finite.Goals as goal
 

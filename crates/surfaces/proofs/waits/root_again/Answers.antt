@@ -1,4 +1,4 @@
--- Drafted (tools/draft): opens Parts.rootAgain. By the tests and the calls, in order. Assumes nothing.
+-- By the tests and the calls, in order. Assumes nothing.
 use Rattle.surfaces.specs.Parts.{root_again}
 use Rattle.surfaces.proofs.waits.root_again.Goals as goal
 

@@ -1,4 +1,4 @@
--- Drafted (tools/draft): opens Leg.beamAfter. By the tests and the calls, in order. Assumes nothing.
+-- By the tests and the calls, in order. Assumes nothing.
 use Rattle.trace.specs.Leg.{beam_after}
 use Rattle.trace.proofs.leg.beam_after.Goals as goal
 

@@ -1,4 +1,4 @@
--- Drafted (tools/draft): opens Leg.boundaryOf. By the tests and the calls, in order. Assumes nothing.
+-- By the tests and the calls, in order. Assumes nothing.
 use Rattle.trace.specs.Leg.{boundary_of}
 use Rattle.trace.proofs.leg.boundary.Goals as goal
 

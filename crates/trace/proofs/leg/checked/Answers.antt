@@ -1,4 +1,4 @@
--- Drafted (tools/draft): opens Leg.legFinite. By the tests and the calls, in order. Assumes nothing.
+-- By the tests and the calls, in order. Assumes nothing.
 use Rattle.trace.specs.Leg.{leg_finite}
 use Rattle.trace.proofs.leg.checked.Goals as goal
 

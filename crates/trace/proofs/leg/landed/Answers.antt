@@ -1,4 +1,3 @@
--- Drafted (tools/draft): opens Leg.legOf; refused by surfaces.Refusals.never_done, surfaces.Refusals.never_done.
 -- By the tests and the calls, in order. Assumes nothing.
 use borrow.Author.Rules.{rules}
 use Rattle.surfaces.proofs.Refusals.{never_done}

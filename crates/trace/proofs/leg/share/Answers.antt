@@ -1,4 +1,4 @@
--- Drafted (tools/draft): opens Leg.share. By the tests and the calls, in order. Assumes nothing.
+-- By the tests and the calls, in order. Assumes nothing.
 use borrow.Author.Tests.{eq-eqb, ne_eqb}
 use Rattle.trace.specs.Leg.{share}
 use Rattle.trace.proofs.leg.share.Goals as goal

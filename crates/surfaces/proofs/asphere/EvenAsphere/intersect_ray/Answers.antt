@@ -1,4 +1,3 @@
--- Drafted (tools/draft): opens Asphere.evenCrossingAnswer; without no-coefficients in returns-2.
 -- By the tests and the calls, in order. Assumes nothing.
 use Rattle.surfaces.specs.Asphere.{even_crossing_answer}
 use Rattle.surfaces.proofs.asphere.EvenAsphere.intersect_ray.Goals as goal

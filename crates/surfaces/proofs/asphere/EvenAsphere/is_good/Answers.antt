@@ -1,4 +1,4 @@
--- Drafted (tools/draft): opens Asphere.evenGood. By the tests and the calls, in order. Assumes nothing.
+-- By the tests and the calls, in order. Assumes nothing.
 use Rattle.surfaces.specs.Asphere.{even_good}
 use Rattle.surfaces.proofs.asphere.EvenAsphere.is_good.Goals as goal
 

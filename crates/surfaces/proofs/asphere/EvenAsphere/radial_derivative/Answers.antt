@@ -1,4 +1,4 @@
--- Drafted (tools/draft): opens Asphere.evenSlopeAnswer. By the tests and the calls, in order. Assumes nothing.
+-- By the tests and the calls, in order. Assumes nothing.
 use Rattle.surfaces.specs.Asphere.{even_slope_answer}
 use Rattle.surfaces.proofs.asphere.EvenAsphere.radial_derivative.Goals as goal
 

@@ -1,4 +1,4 @@
--- Drafted (tools/draft): opens Asphere.evenSagAnswer. By the tests and the calls, in order. Assumes nothing.
+-- By the tests and the calls, in order. Assumes nothing.
 use Rattle.surfaces.specs.Asphere.{even_sag_answer}
 use Rattle.surfaces.proofs.asphere.EvenAsphere.sag.Goals as goal
 

@@ -1,4 +1,4 @@
--- Drafted (tools/draft): opens Asphere.oddCrossingAnswer. By the tests and the calls, in order. Assumes nothing.
+-- By the tests and the calls, in order. Assumes nothing.
 use Rattle.surfaces.specs.Asphere.{odd_crossing_answer}
 use Rattle.surfaces.proofs.asphere.OddAsphere.intersect_ray.Goals as goal
 

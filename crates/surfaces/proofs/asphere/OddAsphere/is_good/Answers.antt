@@ -1,4 +1,4 @@
--- Drafted (tools/draft): opens Asphere.oddGood. By the tests and the calls, in order. Assumes nothing.
+-- By the tests and the calls, in order. Assumes nothing.
 use Rattle.surfaces.specs.Asphere.{odd_good}
 use Rattle.surfaces.proofs.asphere.OddAsphere.is_good.Goals as goal
 

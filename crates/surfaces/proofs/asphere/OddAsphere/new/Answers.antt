@@ -1,4 +1,3 @@
--- Drafted (tools/draft): opens Asphere.newOddAnswer; forward no-coefficients, no-coefficients2.
 -- By the tests and the calls, in order. Assumes nothing.
 use lib.Ieee.{of_bits}
 use Rattle.numbers.specs.Arithmetic.{decimal}

@@ -1,4 +1,4 @@
--- Drafted (tools/draft): opens Asphere.oddNormalAnswer. By the tests and the calls, in order. Assumes nothing.
+-- By the tests and the calls, in order. Assumes nothing.
 use Rattle.surfaces.specs.Asphere.{odd_normal_answer}
 use Rattle.surfaces.proofs.asphere.OddAsphere.normal.Goals as goal
 

@@ -1,4 +1,4 @@
--- Drafted (tools/draft): opens Asphere.oddSagAnswer. By the tests and the calls, in order. Assumes nothing.
+-- By the tests and the calls, in order. Assumes nothing.
 use Rattle.surfaces.specs.Asphere.{odd_sag_answer}
 use Rattle.surfaces.proofs.asphere.OddAsphere.sag.Goals as goal
 

@@ -1,4 +1,4 @@
--- Drafted (tools/draft): opens Biconic.biconicSlopesAnswer. By the tests and the calls, in order. Assumes nothing.
+-- By the tests and the calls, in order. Assumes nothing.
 use Rattle.surfaces.specs.Biconic.{biconic_slopes_answer}
 use Rattle.surfaces.proofs.biconic.BiconicSurface.derivatives.Goals as goal
 

@@ -1,4 +1,3 @@
--- Drafted (tools/draft): opens Biconic.biconicCrossingAnswer; without no-polynomial in returns-2.
 -- By the tests and the calls, in order. Assumes nothing.
 use Rattle.surfaces.specs.Biconic.{biconic_crossing_answer}
 use Rattle.surfaces.proofs.biconic.BiconicSurface.intersect_ray.Goals as goal

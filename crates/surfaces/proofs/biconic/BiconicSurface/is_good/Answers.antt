@@ -1,4 +1,4 @@
--- Drafted (tools/draft): opens Biconic.biconicGood. By the tests and the calls, in order. Assumes nothing.
+-- By the tests and the calls, in order. Assumes nothing.
 use Rattle.surfaces.specs.Biconic.{biconic_good}
 use Rattle.surfaces.proofs.biconic.BiconicSurface.is_good.Goals as goal
 

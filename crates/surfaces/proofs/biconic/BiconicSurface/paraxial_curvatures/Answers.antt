@@ -1,4 +1,4 @@
--- Drafted (tools/draft): opens Biconic.biconicParaxialAnswer. By the tests and the calls, in order. Assumes nothing.
+-- By the tests and the calls, in order. Assumes nothing.
 use Rattle.surfaces.specs.Biconic.{biconic_paraxial_answer}
 use Rattle.surfaces.proofs.biconic.BiconicSurface.paraxial_curvatures.Goals as goal
 

@@ -1,4 +1,4 @@
--- Drafted (tools/draft): opens Biconic.toroidSlopesAnswer. By the tests and the calls, in order. Assumes nothing.
+-- By the tests and the calls, in order. Assumes nothing.
 use Rattle.surfaces.specs.Biconic.{toroid_slopes_answer}
 use Rattle.surfaces.proofs.biconic.ToroidalSurface.derivatives.Goals as goal
 

@@ -1,4 +1,3 @@
--- Drafted (tools/draft): opens Biconic.toroidCrossingAnswer; without no-polynomial in returns-2.
 -- By the tests and the calls, in order. Assumes nothing.
 use Rattle.surfaces.specs.Biconic.{toroid_crossing_answer}
 use Rattle.surfaces.proofs.biconic.ToroidalSurface.intersect_ray.Goals as goal

@@ -1,4 +1,4 @@
--- Drafted (tools/draft): opens Biconic.toroidGood. By the tests and the calls, in order. Assumes nothing.
+-- By the tests and the calls, in order. Assumes nothing.
 use Rattle.surfaces.specs.Biconic.{toroid_good}
 use Rattle.surfaces.proofs.biconic.ToroidalSurface.is_good.Goals as goal
 

@@ -1,4 +1,4 @@
--- Drafted (tools/draft): opens Biconic.toroidNormalAnswer. By the tests and the calls, in order. Assumes nothing.
+-- By the tests and the calls, in order. Assumes nothing.
 use Rattle.surfaces.specs.Biconic.{toroid_normal_answer}
 use Rattle.surfaces.proofs.biconic.ToroidalSurface.normal.Goals as goal
 

@@ -1,4 +1,4 @@
--- Drafted (tools/draft): opens Biconic.toroidSagAnswer. By the tests and the calls, in order. Assumes nothing.
+-- By the tests and the calls, in order. Assumes nothing.
 use Rattle.surfaces.specs.Biconic.{toroid_sag_answer}
 use Rattle.surfaces.proofs.biconic.ToroidalSurface.sag.Goals as goal
 

@@ -1,4 +1,4 @@
--- Drafted (tools/draft): opens Conic.withVertex. By the tests and the calls, in order. Assumes nothing.
+-- By the tests and the calls, in order. Assumes nothing.
 use mathlib.Core.Path.{refl}
 use Rattle.surfaces.specs.Conic.{with_vertex}
 use Rattle.surfaces.proofs.conic.ConicSurface.with_vertex_z.Goals as goal

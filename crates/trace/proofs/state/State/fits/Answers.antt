@@ -1,4 +1,4 @@
--- Drafted (tools/draft): opens State.fits_of. By the tests and the calls, in order. Assumes nothing.
+-- By the tests and the calls, in order. Assumes nothing.
 use Rattle.trace.specs.State.{fits_of}
 use Rattle.trace.proofs.state.State.fits.Goals as goal
 

@@ -1,4 +1,4 @@
--- Drafted (tools/draft): opens State.pausedAt. By the tests and the calls, in order. Assumes nothing.
+-- By the tests and the calls, in order. Assumes nothing.
 use mathlib.Core.Path.{refl}
 use Rattle.trace.specs.State.{paused_at}
 use Rattle.trace.proofs.state.State.paused.Goals as goal

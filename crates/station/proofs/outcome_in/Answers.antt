@@ -1,4 +1,4 @@
--- Drafted (tools/draft): opens Lent.outcomeIn. By the tests and the calls, in order. Assumes nothing.
+-- By the tests and the calls, in order. Assumes nothing.
 use borrow.Author.Rules.{rules}
 use borrow.Author.Tests.{le-ltb, lt-ltb}
 use Rattle.station.specs.Lent.{outcome_in}

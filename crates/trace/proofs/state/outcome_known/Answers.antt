@@ -1,4 +1,4 @@
--- Drafted (tools/draft): opens State.outcomeKnown. By the tests and the calls, in order. Assumes nothing.
+-- By the tests and the calls, in order. Assumes nothing.
 use mathlib.Core.Path.{refl}
 use Rattle.trace.specs.State.{outcome_known}
 use Rattle.trace.proofs.state.outcome_known.Goals as goal

@@ -575,8 +575,8 @@ static void take(const struct input *x) {
     keep_dearest(&c);
 }
 
-/* What a step costs on top of its own where, in the same call, the one before it ended its surface. Where that did not,
-   the record is not read anew, and the step costs less. */
+/* What a step costs on top of its own where, in the same call, the one before it ended its surface; nothing where the
+   two cost less together. Where that did not, the record is not read anew, and the step costs less. */
 static uint64_t next_cost;
 
 static void count_next(void) {
@@ -586,7 +586,8 @@ static void count_next(void) {
     repeat(&t, &x, full_length(kind_of(0)), 2);
     uint64_t one = count_continue(&t, 1), other = count_continue(&t, 1);
     repeat(&t, &x, full_length(kind_of(0)), 2);
-    next_cost = count_continue(&t, 2) + cost.scan + checks(&t) - one - other;
+    uint64_t apart = one + other - cost.scan - checks(&t), together = count_continue(&t, 2);
+    next_cost = together > apart ? together - apart : 0;
 }
 
 /* What the dearest steps cost more where they are the first surface's. */

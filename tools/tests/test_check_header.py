@@ -114,7 +114,7 @@ def check(top, *words):
 
 def copy_to(folder):
     """What check-header reads."""
-    unread = shutil.ignore_patterns("proofs", "specs", "must-fail", "target")
+    unread = shutil.ignore_patterns("proofs", "specs", "must-fail", "out")
     for name in ("include", "crates", "examples/rust/src"):
         shutil.copytree(TOP / name, folder / name, ignore=unread)
 

@@ -1,11 +1,10 @@
 """What a check generates of a function, and what the sources say of those that it calls, for `tools/draft`.
 
 A function's `Lts` has a record for each place of its code. From the start a step leads to the next place: a call, a
-test's outcome, an arm, a join. A need is what is to be shown at a place.
+test's outcome, an arm, a join. A goal is what is to be shown at a place, or at one of `View`, where types tell more;
+`Goals` has its name.
 """
-import hashlib
 import re
-import shutil
 import subprocess
 from pathlib import Path
 from typing import Dict, List, NamedTuple, Optional, Tuple
@@ -18,34 +17,78 @@ class Ungenerated(Exception):
 
 
 class Step(NamedTuple):
-    """From one place to the next: its name, its kind, and the symbol that a call calls or the type of what it tells."""
+    """From one place to the next: its name, its kind, and what it is of.
+
+    A call is of its symbol, a test of the outcome's fact; an arm of its enum and the variant's number, or of nothing
+    where it stands for several. `told` tells of a struct or an enum what is known anyway. Another kind has the name of
+    the first field that it has.
+    """
 
     before: str
     name: str
     kind: str
-    of: str
+    of: object
 
 
 class Derivation(NamedTuple):
-    """The steps by the place that each leads to; the needs in order, each with its place; if a float is written out."""
+    """The steps by the place that each leads to; the goals in order, each with its place; if a float is written out."""
 
     steps: Dict[str, Step]
-    needs: List[Tuple[str, str]]
+    goals: List[Tuple[str, str]]
     has_floats: bool
 
 
-def derivation(lts):
-    """Reads a function's `Lts`. A kind is `call`, or the name of the field that says what a step tells."""
-    text = lts[lts.rfind("pub record Args"):]
-    symbols = dict(re.findall(r'\(claims· \.(\d+)\)\s+"([^"]+)"\)', text))
-    told = {place: ("call", symbols[claim]) for place, claim in re.findall(
-        r"abbrev pub (\S+)·own : Type 0\n\s+\S+ =\s+Called\.Called\s+\S+\s+\S+\s+\(claims· \.(\d+)\)", text)}
-    told.update({place: (field.rstrip("0123456789"), " ".join(kind.split())) for place, field, kind in re.findall(
-        r"pub record (\S+)·own : Type 0 where\n\s+pub (\S+) :((?:.*\S.*\n)+)", text)})
-    steps = {place: Step(before, name, *told[place]) for place, before, name in re.findall(
-        r"pub record (\S+) : Type 0 where\n\s+pub before : (\S+)\n\s+pub (\S+) :", text)}
-    needs = re.findall(r"abbrev pub Need-(\S+) : Type 0\n\s+Need-\S+ =\s+\(c : ([^\s)]+)\)", text)
-    return Derivation(steps, needs, bool(re.search(r"Syntax\.float\s+\S+\s+\d", lts)))
+def derivation(lts, view, goals):
+    """Reads these texts of a function."""
+    text = lts[lts.find("pub record Args"):]
+    symbols = dict(re.findall(r'the-claims\.(\d+) \(Syntax\.fn\S* "([^"]+)"', " ".join(lts.split())))
+    blocks = {name: block for _, name, block in re.findall(
+        r"^( *)pub record (\S+) : Type 0 where\n((?:\1 +.*\n)+)", text, re.M)}
+    records = {name: fields(block) for name, block in blocks.items()}
+    called = {own: ("call", symbols.get(claim, "")) for own, claim in re.findall(
+        r"abbrev pub (\S+) : Type 0\s+\S+ =\s+Called\.Called\s+\S+\s+\S+\s+the-claims\.(\d+)", text)}
+    steps = {}
+    for place, held in records.items():
+        if "pub open before use *" in blocks[place]:
+            name, own = next((name, kind.split()[0]) for name, kind in held.items() if name != "before")
+            what = called.get(own) or told(records.get(own, {own: ""}), records, symbols)
+            steps[place] = Step(held["before"], name, *what)
+    return Derivation(steps, goals_in(goals, view), bool(re.search(r"Syntax\.float\s+\S+\s+\d", lts)))
+
+
+def fields(block):
+    """A record's fields with their types."""
+    return {name: " ".join(kind.split()) for name, kind in re.findall(
+        r"^ *pub (\S+) :((?:.|\n)*?)(?=^ *pub |\Z)", block, re.M)}
+
+
+def told(held, records, symbols):
+    """The kind of a step, and what it is of, by the fields of what it tells."""
+    if "result" in held:
+        claim = re.match(r"the-claims\.(\d+) ", held.get("ensures", ""))
+        return "call", symbols.get(claim and claim[1], "")
+    for outcome in ("true", "false"):
+        if outcome in held:
+            return outcome, held[outcome]
+    if "is" in held:
+        return "arm", next(filter(None, (variant(records.get(kind.split()[0], {})) for kind in held.values())), None)
+    return ("told", None) if set(held) <= {"given", "ensures"} else (next(iter(held)), None)
+
+
+def variant(held):
+    """The enum and the number of the one variant that a test of an arm tells of."""
+    found = re.match(r"Run\.OneOf \(List\.◌∷◌ (\d+) List\.\[\]\) \([\w']+\.tag_of ([^\s.']+)",
+                     next(iter(held.values()), ""))
+    return found and (found[2], int(found[1]))
+
+
+def goals_in(goals, view):
+    """The names of the goals in order, each with its place."""
+    seen = {f"View.{name}": place for name, place in re.findall(
+        r"pub record (\S+) : Type 0 where\n\s+pub before : (\S+)", view)}
+    places = {name: seen.get(place, place)[len("Lts."):] for name, place in re.findall(
+        r"^(\S+) =\s+((?:Lts|View)\.\S+)", goals, re.M)}
+    return [(goal, places[place]) for goal, place in re.findall(r"^(\S+) =\s+Past\.At\w*\s+(\S+)", goals, re.M)]
 
 
 def way_to(place, steps):
@@ -57,27 +100,21 @@ def way_to(place, steps):
     return way[::-1]
 
 
-class Contract(NamedTuple):
-    """Whether a call is asked for something, and where in its promise the equation stands, if it promises one."""
-
-    asks: bool
-    equation: Optional[str]
-
-
 class Sources(NamedTuple):
-    """Contracts by the function's symbol; for each enum, what its variants hold."""
+    """By each function's symbol where in its promise an equation stands, if it promises one; for each enum, what its
+    variants hold."""
 
-    contracts: Dict[str, Contract]
+    equations: Dict[str, Optional[str]]
     variants: Dict[str, List[str]]
 
 
 def sources(top=TOP):
-    contracts, variants = {}, {}
+    equations, variants = {}, {}
     for path in sorted(top.glob("crates/*/src/**/*.rt")):
         text = code(path)
-        contracts.update(contracts_in(text, module_of(path.relative_to(top / "crates"))))
+        equations.update(equations_in(text, module_of(path.relative_to(top / "crates"))))
         variants.update(variants_in(text))
-    return Sources(contracts, variants)
+    return Sources(equations, variants)
 
 
 def code(path):
@@ -91,27 +128,38 @@ def module_of(path):
     return "::".join([crate, *(name for name in modules if name not in ("lib", "main"))])
 
 
-def contracts_in(text, module):
+def equations_in(text, module):
     found, owner = {}, module
     for match in re.finditer(r'^impl (\w+) \{|^\}|^[ \w()"]*\bfn (\w+)(.*?)\{\n', text, re.M | re.S):
         if match[1]:
             owner = f"{module}::{match[1]}"
         elif match[2]:
-            found[f"{owner}::{match[2]}"] = contract(match[3])
+            found[f"{owner}::{match[2]}"] = equation(match[3])
         else:
             owner = module
     return found
 
 
-def contract(clauses):
-    claim = re.search(r"^\s*ensures \{ λ \w+\. ⌜ (.*) ⌝ \}", clauses, re.M)
-    return Contract(bool(re.search(r"^\s*requires \{", clauses, re.M)), equation_of(claim[1]) if claim else None)
-
-
-def equation_of(claim):
+def equation(clauses):
+    """Where several facts are promised, it is asked of the first."""
+    found = re.search(r"^\s*ensures (?:(\w+) )?\{", clauses, re.M)
+    if not found:
+        return None
+    clause = f".ensures.{found[1]}" if found[1] else ".ensures"
+    claim = closed(clauses[found.end():])
     if re.match(r"\([^×→]* ≡ [^×→]*\) × ", claim):
-        return ".ensures .0"
-    return ".ensures" if " ≡ " in claim and not re.search("[×→]", claim) else None
+        return f"{clause}.0"
+    return clause if " ≡ " in claim and not re.search("[×→]", claim) else None
+
+
+def closed(text):
+    """Up to the brace that closes it."""
+    depth = 1
+    for i, sign in enumerate(text):
+        depth += (sign == "{") - (sign == "}")
+        if depth == 0:
+            return text[:i].strip()
+    return text
 
 
 def variants_in(text):
@@ -120,43 +168,19 @@ def variants_in(text):
 
 
 def crates(top=TOP):
-    """The crates in the order of crates.txt, each with those of them that it names."""
+    """In the order of crates.txt."""
     lines = [line.partition("#")[0] for line in (top / "crates.txt").read_text(encoding="utf-8").splitlines()]
-    named = {line.partition(":")[0].strip(): line.partition(":")[2].split() for line in lines if ":" in line}
-    return {crate: [other for other in others if other in named] for crate, others in named.items()}
+    return [line.split(":")[0].split()[0] for line in lines if line.strip()]
 
 
-def reached(crate, named):
-    """The crate and all below it."""
-    return {crate}.union(*(reached(other, named) for other in named[crate]))
-
-
-def sum_of(crate, top=TOP):
-    """Of the code that the crate's derivations are made of, whatever its comments and its layout."""
-    total = hashlib.sha256()
-    for name in sorted(reached(crate, crates(top))):
-        for path in sorted((top / "crates" / name / "src").rglob("*.rt")):
-            total.update(f"{path.relative_to(top)} {' '.join(code(path).split())}\n".encode())
-    return total.hexdigest()
-
-
-def generated(crate, top=TOP):
-    """The folder of the crate's generated proofs, made anew if a source has changed: this takes as long as a check."""
-    folder, stamp = top / "target/generated" / crate, top / "target/generated" / f"{crate}.sum"
-    if not stamp.exists() or stamp.read_text(encoding="utf-8") != sum_of(crate, top):
-        shutil.rmtree(folder, ignore_errors=True)
-        folder.mkdir(parents=True)
-        if not is_written(crate, folder, top):
-            raise Ungenerated(f"{crate}: nothing was generated; are the crates below it proved? See rt dev {crate}")
-        stamp.write_text(sum_of(crate, top), encoding="utf-8")
-    return folder / f"Rattle·{crate}·proofs" / "proofs"
-
-
-def is_written(crate, folder, top):
-    """Whether the toolchain writes the crate's modules, as it does too where a proof is refused."""
+def generated(crate, functions, folder, top=TOP):
+    """Where the toolchain has written below the folder what it generates of these functions, whatever their proofs."""
+    words = [word for function in functions for word in ("--start", function.replace("/", "::"))]
     try:
-        done = subprocess.run(["rt", "dev", crate, "--generated", str(folder)], cwd=top, stdout=subprocess.PIPE,
-                              stderr=subprocess.STDOUT, check=False)
+        done = subprocess.run(["rt", "check", *words, "--generated", str(folder)], cwd=top / "crates" / crate,
+                              stdout=subprocess.PIPE, stderr=subprocess.STDOUT, encoding="utf-8", check=False)
     except FileNotFoundError:
         raise Ungenerated("there is no rt on the path") from None
-    return bool(re.search(rb"^generated=", done.stdout, re.M))
+    if not re.search(r"^generated=", done.stdout, re.M):
+        raise Ungenerated(f"{crate}: nothing was generated; are the crates below it proved? {done.stdout.strip()[-500:]}")
+    return folder / f"Rattle-{crate}-proofs"

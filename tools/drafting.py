@@ -2,32 +2,36 @@
 
 Each return is rewritten by the facts on the way to it, in the program's order: a test's outcome, an arm's value, a
 call's promise. They are read from what a check generates and from the callees' contracts. What stands in neither is the
-draft's recipe, in the first line of the proof:
+draft's recipe, in the first line of the function's answers:
 
-    -- Drafted (tools/draft): opens Conic.firstOn, Types.distance; refused by Refusals.never-done. ..
+    -- Drafted (tools/draft): opens Conic.first_on, Types.distance; refused by Refusals.never_done. ..
 
     opens RULE, ..            rules that are unfolded, each with its module of specs/, and its crate if that is another
     refused by LAW, ..        laws of proofs/ that follow the arm of a variant that holds a `Refusal`
-    first LAW                 a law, with its arguments, that each return is rewritten by before all else
-    after STEP LAW            a law that follows what a step tells: a call, a test or an arm by its name in the `Lts`
+    first LAW                 a law, with its arguments, that each return is rewritten by before all else; `LAW .1` is
+                              the second part of what it says
+    after STEP LAW            a law that follows what a step tells: a call, a test or an arm by its name in the goals
     tests by leb              the rule tests by `leb` whole numbers that the code tests by `<`; or by `ltb` for `<=`
     forward CALL, ..          calls whose promises are used from left to right, as those of two calls with one result
     without CALL in RETURN    on the way to this return the call's result is of no use
 
-Loops, joins and arms for several values are not drafted: such a proof is by hand.
+What is asked of calls the toolchain answers. Loops, joins, matches on numbers and arms for several values are not
+drafted: such a proof is by hand.
 """
 import re
+import tempfile
 import textwrap
+from pathlib import Path
 from typing import NamedTuple, Optional, Tuple
 
-from derivations import TOP, Contract, derivation, generated, sources, way_to
+from derivations import TOP, derivation, generated, sources, way_to
 
 WIDTH = 120
 SIGN = "-- Drafted (tools/draft): "
 SENTENCE = "By the tests and the calls, in order. Assumes nothing."
-LITERALS = ("numbers.Arithmetic.decimal", "lib.Ieee.ofBits")
+LITERALS = ("numbers.Arithmetic.decimal", "lib.Ieee.of_bits")
 TESTS = "borrow.Author.Tests"
-UNDRAFTED = {"came": "it has a join", "keys": "it has an arm for several values"}
+WRITTEN = ("Lts", "Lts/View", "Goals")
 
 
 class Undrafted(Exception):
@@ -102,30 +106,21 @@ def recipe_of(proof):
     return parsed(text[len(SIGN):-len(". " + SENTENCE)].split("; "))
 
 
-class Fact(NamedTuple):
-    """What rewrites a return, with {} for the place that it is known at, so many steps before the return."""
-
-    back: int
-    form: str
-
-
 class Draft:
     """A proof of the function in this folder below proofs/."""
 
     def __init__(self, crate, function, recipe, derived, known):
         self.crate, self.function, self.recipe = crate, function, recipe
-        self.steps, self.needs, self.has_floats = derived
-        self.contracts, self.variants = known
+        self.steps, self.goals, self.has_floats = derived
+        self.equations, self.variants = known
 
     def text(self):
-        name = self.function.split("/")[-1].replace("_", "-")
-        answers = "\n".join(self.answer(need, place) for need, place in self.needs)
-        unfolded = " ".join(short(rule) for rule in self.opened())
-        lines = [head(self.recipe), *self.uses(answers), "",
-                 f"pub {name}-spec : {{M : Type 1}} → statement M",
-                 *([f"unfolding {unfolded}"] if unfolded else []),
-                 f"{name}-spec =", "    tie.close", "    (tie.spec", answers + ")"]
-        return "\n".join(lines) + "\n"
+        if any(re.search("-(init|preserved|smaller)$", goal) for goal, _ in self.goals):
+            raise Undrafted("it has a loop")
+        answers = [self.answer(goal, place) for goal, place in self.goals if re.match(r"returns\b", goal)]
+        if not answers:
+            raise Undrafted("it has no goal at a return: rt check proves it without a file, or says why not")
+        return "\n\n".join(["\n".join([head(self.recipe), *self.uses("\n".join(answers))]), *answers]) + "\n"
 
     def opened(self):
         """The recipe's rules, and what ties a float that the code writes out to the rule's."""
@@ -133,9 +128,8 @@ class Draft:
 
     def uses(self, answers):
         """The lines that bring in what the answers name: the logic's first, this crate's last."""
-        tests = sorted(set(re.findall(r"\b(?:eq|ne|lt|le)-(?:eqb|leb|ltb)\b", answers)))
-        names = ["borrow.Author.Needs.needs"] * ("search needs" in answers) + [f"{TESTS}.{test}" for test in tests]
-        names += ["mathlib.Core.Path.refl"] * ("(λ c. refl)" in answers)
+        tests = sorted(set(re.findall(r"\b(?:eq-eqb|ne_eqb|(?:lt|le)-(?:ltb|leb))\b", answers)))
+        names = [f"{TESTS}.{test}" for test in tests] + ["mathlib.Core.Path.refl"] * (" c = refl" in answers)
         names += [self.whole(rule, "specs") for rule in self.opened()]
         for law, *arguments in (law.split() for law in self.laws() if short(law) in answers):
             names += [self.whole(law, "proofs"), *(self.whole(word, "specs") for word in arguments if is_named(word))]
@@ -143,11 +137,10 @@ class Draft:
         for name in names:
             module, _, last = name.rpartition(".")
             modules.setdefault(module, {})[last] = True
-        own = f"Rattle·{self.crate}·"
-        there = f"{own}proofs.proofs.{self.function.replace('/', '.')}"
-        ordered = sorted(modules, key=lambda module: (module.startswith("Rattle·"), module.startswith(own)))
+        own = f"Rattle.{self.crate}."
+        ordered = sorted(modules, key=lambda module: (module.startswith("Rattle."), module.startswith(own)))
         return [*(f"use {module}.{{{', '.join(modules[module])}}}" for module in ordered),
-                f"use {there}.Statement.{{statement}}", f"use {there}.Tie as tie"]
+                f"use {own}proofs.{self.function.replace('/', '.')}.Goals as goal"]
 
     def laws(self):
         laws = [*self.recipe.refused, *self.recipe.first, *(law for _, law in self.recipe.after)]
@@ -156,68 +149,51 @@ class Draft:
     def whole(self, name, room):
         """A name with its whole module: of this crate's room, of another's, or of the logic as it stands."""
         first, _, rest = name.partition(".")
-        if first[0].isupper() or first == self.crate:
-            return f"Rattle·{self.crate}·{room}.{room}.{rest if first == self.crate else name}"
-        return f"Rattle·{first}.{room}.{rest}" if (TOP / "crates" / first).is_dir() else name
+        if first[0].isupper():
+            return f"Rattle.{self.crate}.{room}.{name}"
+        return f"Rattle.{first}.{room}.{rest}" if (TOP / "crates" / first).is_dir() or first == self.crate else name
 
-    def answer(self, need, place):
-        if re.fullmatch(r"returns(-\d+)?", need):
-            return self.returned(need, place)
-        if re.search(r"-requires(-\d+)?$", need):
-            return f"    (λ c κs. {'search needs' if self.asks(need) else 'tt'})"
-        if need.startswith("loop"):
-            raise Undrafted("it has a loop")
-        return "    (λ c. search needs)"
+    def answer(self, goal, place):
+        unfolded = " ".join(short(rule) for rule in self.opened())
+        facts = self.facts(goal, place)
+        line = f"{goal} c = {rewriting(facts)}"
+        if len(line) > WIDTH:
+            line = f"{goal} c =\n    {rewriting(facts)}"
+        if max(map(len, line.splitlines())) > WIDTH:
+            line = "\n".join([f"{goal} c =", "    rw (", *(f"      {fact}," for fact in facts), "    )"])
+        return "\n".join([f"pub {goal} : goal.{goal}", *([f"unfolding {unfolded}"] if unfolded else []), line])
 
-    def asks(self, need):
-        """Whether the call's contract asks for something; of the toolchain's libraries it is not known."""
-        call = re.sub(r"-requires(-\d+)?$", "", need)
-        symbols = {step.of for step in self.steps.values() if step.kind == "call" and step.name == call}
-        return any(symbol not in self.contracts or self.contracts[symbol].asks for symbol in symbols)
-
-    def returned(self, need, place):
-        facts = self.facts(need, place)
-        if not facts:
-            return "    (λ c. refl)"
-        names, lets = names_of(sorted({fact.back for fact in facts}))
-        rewritten = rewriting([fact.form.format(names[fact.back]) for fact in facts])
-        line = f"    (λ c. {' '.join([*lets, rewritten])})"
-        if len(line) < WIDTH and "\n" not in line:
-            return line
-        return "\n".join(["    (λ c.", *packed(lets), f"    {rewritten})"])
-
-    def facts(self, need, place):
+    def facts(self, goal, place):
         """In the program's order."""
-        way = way_to(place, self.steps)
-        facts = [Fact(0, short(law)) for law in self.recipe.first]
-        for i, step in enumerate(way):
-            if (step.name, need) not in self.recipe.without:
-                laws = [short(law) for name, law in self.recipe.after if name == step.name]
-                facts += [Fact(len(way) - 1 - i, form) for form in self.forms(step, way[i + 1:]) + laws]
+        try:
+            way = way_to(place, self.steps)
+        except KeyError:
+            raise Undrafted(f"the way to {goal} cannot be read") from None
+        facts = [short(law) for law in self.recipe.first]
+        for step in way:
+            if (step.name, goal) not in self.recipe.without:
+                facts += self.forms(step) + [short(law) for name, law in self.recipe.after if name == step.name]
         return facts
 
-    def forms(self, step, after):
-        """What a step tells, with the steps after it."""
+    def forms(self, step):
+        """What a step tells."""
         if step.kind == "call":
-            equation = self.contracts.get(step.of, Contract(True, None)).equation
+            equation = self.equations.get(step.of)
             turned = "" if step.name in self.recipe.forward else "← "
-            return [f"{turned}{{}} .{step.name} {equation}"] if equation else []
-        if step.kind in ("taken", "left"):
+            return [f"{turned}c.{step.name}{equation}"] if equation else []
+        if step.kind in ("true", "false"):
             return [tested(step, self.recipe.tests)]
-        if step.kind == "given":
-            return [f"{{}} .{step.name} .given .1", *self.refusing(step)] if self.tells_variant(step) else []
-        if step.kind == "keys" and after and self.tells_variant(after[0]):
+        if step.kind == "arm" and step.of:
+            return [f"c.{step.name}.is", *self.refusing(*step.of)]
+        if step.kind == "arm":
+            raise Undrafted("it has an arm for several values")
+        if step.kind == "told":
             return []
-        raise Undrafted(UNDRAFTED.get(step.kind, "it has a loop"))
+        raise Undrafted(f"it has a loop, a join or a match on numbers: {step.name}")
 
-    def tells_variant(self, step):
-        """Whether it is the first of an arm, which says what the enum is."""
-        return any(need.startswith("enum-") and place == step.before for need, place in self.needs)
-
-    def refusing(self, step):
+    def refusing(self, enum, number):
         """The laws that follow an arm, if its variant holds a refusal."""
-        arm = re.match(r"Run\.OneOf \(List\._∷_ (\d+) List\.\[\]\) \(Declared\.tagOf (\w+)", self.steps[step.before].of)
-        held = self.variants[arm[2]][int(arm[1])]
+        held = self.variants.get(enum, [""] * (number + 1))[number]
         return [short(law) for law in self.recipe.refused] if re.search(r"\bRefusal\b", held) else []
 
 
@@ -226,74 +202,53 @@ def is_named(word):
     return "." in word[1:]
 
 
-def short(words):
-    """Names without their modules."""
-    return " ".join(word.rpartition(".")[2] if is_named(word) else word for word in words.split())
+def short(law):
+    """Names without their modules; a part of what a law says is that of the whole call."""
+    sign, words = ("← ", law[2:]) if law.startswith("← ") else ("", law)
+    *called, last = [word.rpartition(".")[2] if is_named(word) else word for word in words.split()]
+    return sign + (f"({' '.join(called)}){last}" if last.startswith(".") else " ".join([*called, last]))
 
 
 def tested(step, tests):
     """On whole numbers an outcome is a fact of them, and a law takes it to the test that the rule has."""
-    outcome = f"{{}} .{step.name} .{step.kind}"
-    relation = re.match(r"[\w']+\._(.)_( \{A = [\w']+\.ℕ\})?", step.of)
+    outcome = f"c.{step.name}.{step.kind}"
+    relation = re.match(r"[\w']+\.◌(.)◌( \{A = [\w']+\.ℕ\})?", step.of)
     if relation[1] == "≡":
-        return f"{'ne' if step.of.endswith('→ ⊥') else 'eq'}-eqb _ _ ({outcome})" if relation[2] else outcome
-    test = tests or ("ltb" if (relation[1] == "<") == (step.kind == "taken") else "leb")
-    return f"{'lt' if relation[1] == '<' else 'le'}-{test} _ _ ({outcome})"
+        return f"{'ne_eqb' if step.of.endswith('→ ⊥') else 'eq-eqb'} _ _ {outcome}" if relation[2] else outcome
+    test = tests or ("ltb" if (relation[1] == "<") == (step.kind == "true") else "leb")
+    return f"{'lt' if relation[1] == '<' else 'le'}-{test} _ _ {outcome}"
 
 
-def names_of(backs):
-    """A name for each place so many steps back, and the `let`s that bind them."""
-    names, lets, last = {0: "c"}, [], 0
-    for back in backs:
-        if back not in names:
-            names[back] = f"c{back}"
-            lets.append(f"let c{back} = {names[last]}{' .before' * (back - last)} in")
-            last = back
-    return names, lets
-
-
-def packed(lets):
-    """As many to a line as fit."""
-    lines = []
-    for let in lets:
-        if lines and len(lines[-1]) + 1 + len(let) <= WIDTH:
-            lines[-1] += " " + let
-        else:
-            lines.append("    " + let)
-    return lines
-
-
-def rewriting(forms):
-    """On one line where it fits with the brackets that close the proof, else a line for each fact."""
-    line = f"rw ({', '.join(forms)})"
-    if len("    ") + len(line) + len("))") <= WIDTH:
-        return line
-    return "rw (\n" + "".join(f"      {form},\n" for form in forms) + "    )"
+def rewriting(facts):
+    if len(facts) == 1 and " " not in facts[0]:
+        return f"rw {facts[0]}"
+    return f"rw ({', '.join(facts)})" if facts else "refl"
 
 
 def proof_of(crate, function, top=TOP):
-    return top / "crates" / crate / "proofs" / function / "Proof.antt"
+    return top / "crates" / crate / "proofs" / function / "Answers.antt"
 
 
 def drafted(crate, top=TOP):
     """The recipes of the crate's drafted proofs, by the function's folder below proofs/."""
     folder, recipes = top / "crates" / crate / "proofs", {}
-    for path in sorted(folder.rglob("Proof.antt")):
+    for path in sorted(folder.rglob("Answers.antt")):
         recipe = recipe_of(path.read_text(encoding="utf-8"))
         if recipe is not None:
             recipes[str(path.parent.relative_to(folder))] = recipe
     return recipes
 
 
-def drafts(crate, recipes, top=TOP):
+def drafts(crate, recipes, top=TOP, generated=generated):
     """The text for each function with a recipe, or why there is none."""
-    folder, known, made = generated(crate, top) if recipes else None, sources(top), {}
-    for function, recipe in recipes.items():
-        lts = folder / function / "Lts.antt"
-        try:
-            if not lts.exists():
-                raise Undrafted("nothing was generated for it: is it a function of the crate, and does it compile?")
-            made[function] = Draft(crate, function, recipe, derivation(lts.read_text(encoding="utf-8")), known).text()
-        except Undrafted as why:
-            made[function] = why
+    known, made = sources(top), {function: Undrafted("it is no function of the crate") for function in recipes}
+    there = [function for function in recipes if f"{crate}::{function.replace('/', '::')}" in known.equations]
+    with tempfile.TemporaryDirectory() as folder:
+        proofs = generated(crate, there, Path(folder), top) if there else None
+        for function in there:
+            texts = [(proofs / function / f"{name}.antt").read_text(encoding="utf-8") for name in WRITTEN]
+            try:
+                made[function] = Draft(crate, function, recipes[function], derivation(*texts), known).text()
+            except Undrafted as why:
+                made[function] = why
     return made

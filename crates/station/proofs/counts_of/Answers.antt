@@ -1,16 +1,7 @@
--- By the tests and the calls, in order. Assumes nothing.
-use borrow.Author.Rules.{rules}
+-- Drafted (tools/draft): opens Lent.counts_of. By the tests and the calls, in order. Assumes nothing.
 use mathlib.Core.Path.{refl}
 use Rattle.station.specs.Lent.{counts_of}
 use Rattle.station.proofs.counts_of.Goals as goal
-
-pub overflow_cast-result : goal.overflow_cast-result
-unfolding counts_of
-overflow_cast-result c = search rules
-
-pub overflow_cast-result-2 : goal.overflow_cast-result-2
-unfolding counts_of
-overflow_cast-result-2 c = search rules
 
 pub returns : goal.returns
 unfolding counts_of

@@ -1,4 +1,4 @@
--- By the tests and the calls, in order. Assumes nothing.
+-- Drafted (tools/draft): opens Lent.numbers_of. By the tests and the calls, in order. Assumes nothing.
 use mathlib.Core.Path.{refl}
 use Rattle.station.specs.Lent.{numbers_of}
 use Rattle.station.proofs.numbers_of.Goals as goal

@@ -1,12 +1,7 @@
--- By the tests and the calls, in order. Assumes nothing.
-use borrow.Author.Rules.{rules}
+-- Drafted (tools/draft): opens Lent.passes_in. By the tests and the calls, in order. Assumes nothing.
 use borrow.Author.Tests.{le-ltb, lt-ltb}
 use Rattle.station.specs.Lent.{passes_in}
 use Rattle.station.proofs.passes_in.Goals as goal
-
-pub overflow_cast-result : goal.overflow_cast-result
-unfolding passes_in
-overflow_cast-result c = search rules
 
 pub returns-then-n-lt65536 : goal.returns-then-n-lt65536
 unfolding passes_in

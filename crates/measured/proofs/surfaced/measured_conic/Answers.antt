@@ -1,31 +1,16 @@
+-- Drafted (tools/draft): opens Surfaced.sum_hit; refused by surfaces.Refusals.never_done.
 -- By the tests and the calls, in order. Assumes nothing.
-use borrow.Author.Rules.{rules}
 use lib.Ieee.{of_bits}
 use Rattle.numbers.specs.Arithmetic.{decimal}
 use Rattle.surfaces.proofs.Refusals.{never_done}
 use Rattle.measured.specs.Surfaced.{sum_hit}
 use Rattle.measured.proofs.surfaced.measured_conic.Goals as goal
 
-pub enum_known-h : goal.enum_known-h
-unfolding sum_hit decimal of_bits
-enum_known-h c = search rules
-
-pub enum_told-1 : goal.enum_told-1
-unfolding sum_hit decimal of_bits
-enum_told-1 c = search rules
-
 pub returns-in-Given : goal.returns-in-Given
 unfolding sum_hit decimal of_bits
-returns-in-Given c =
-    rw (← c.ray_of.ensures, ← c.conic_of.ensures, ← c.intersect_conic.ensures, c.in-Given.is)
+returns-in-Given c = rw (← c.ray_of.ensures, ← c.conic_of.ensures, ← c.intersect_conic.ensures, c.in-Given.is)
 
 pub returns-in-Refused : goal.returns-in-Refused
 unfolding sum_hit decimal of_bits
 returns-in-Refused c =
-    rw (
-      ← c.ray_of.ensures,
-      ← c.conic_of.ensures,
-      ← c.intersect_conic.ensures,
-      c.in-Refused.is,
-      never_done,
-    )
+    rw (← c.ray_of.ensures, ← c.conic_of.ensures, ← c.intersect_conic.ensures, c.in-Refused.is, never_done)

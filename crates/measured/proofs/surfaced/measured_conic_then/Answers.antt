@@ -1,18 +1,10 @@
+-- Drafted (tools/draft): opens Surfaced.conic_then; refused by surfaces.Refusals.never_done.
 -- By the tests and the calls, in order. Assumes nothing.
-use borrow.Author.Rules.{rules}
 use lib.Ieee.{of_bits}
 use Rattle.numbers.specs.Arithmetic.{decimal}
 use Rattle.surfaces.proofs.Refusals.{never_done}
 use Rattle.measured.specs.Surfaced.{conic_then}
 use Rattle.measured.proofs.surfaced.measured_conic_then.Goals as goal
-
-pub enum_known-h : goal.enum_known-h
-unfolding conic_then decimal of_bits
-enum_known-h c = search rules
-
-pub enum_told-1 : goal.enum_told-1
-unfolding conic_then decimal of_bits
-enum_told-1 c = search rules
 
 pub returns-in-Given : goal.returns-in-Given
 unfolding conic_then decimal of_bits
@@ -29,10 +21,4 @@ returns-in-Given c =
 pub returns-in-Refused : goal.returns-in-Refused
 unfolding conic_then decimal of_bits
 returns-in-Refused c =
-    rw (
-      ← c.ray_of-ray.ensures,
-      ← c.conic_of.ensures,
-      ← c.intersect_conic.ensures,
-      c.in-Refused.is,
-      never_done,
-    )
+    rw (← c.ray_of-ray.ensures, ← c.conic_of.ensures, ← c.intersect_conic.ensures, c.in-Refused.is, never_done)

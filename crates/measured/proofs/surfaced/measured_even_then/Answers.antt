@@ -1,26 +1,10 @@
+-- Drafted (tools/draft): opens Surfaced.even_then; refused by surfaces.Refusals.never_done.
 -- By the tests and the calls, in order. Assumes nothing.
-use borrow.Author.Rules.{rules}
 use lib.Ieee.{of_bits}
 use Rattle.numbers.specs.Arithmetic.{decimal}
 use Rattle.surfaces.proofs.Refusals.{never_done}
 use Rattle.measured.specs.Surfaced.{even_then}
 use Rattle.measured.proofs.surfaced.measured_even_then.Goals as goal
-
-pub enum_known-l : goal.enum_known-l
-unfolding even_then decimal of_bits
-enum_known-l c = search rules
-
-pub enum_known-n : goal.enum_known-n
-unfolding even_then decimal of_bits
-enum_known-n c = search rules
-
-pub enum_told-1 : goal.enum_told-1
-unfolding even_then decimal of_bits
-enum_told-1 c = search rules
-
-pub enum_told-in-Refused : goal.enum_told-in-Refused
-unfolding even_then decimal of_bits
-enum_told-in-Refused c = search rules
 
 pub returns-in-Given-normal : goal.returns-in-Given-normal
 unfolding even_then decimal of_bits
@@ -52,10 +36,4 @@ returns-in-Refused-normal c =
 pub returns-in-Refused : goal.returns-in-Refused
 unfolding even_then decimal of_bits
 returns-in-Refused c =
-    rw (
-      ← c.ray_of-ray.ensures,
-      ← c.even_of-s.ensures,
-      ← c.intersect_ray.ensures,
-      c.in-Refused.is,
-      never_done,
-    )
+    rw (← c.ray_of-ray.ensures, ← c.even_of-s.ensures, ← c.intersect_ray.ensures, c.in-Refused.is, never_done)

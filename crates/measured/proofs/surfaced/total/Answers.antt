@@ -1,18 +1,10 @@
+-- Drafted (tools/draft): opens Surfaced.sum_vec; refused by surfaces.Refusals.never_done.
 -- By the tests and the calls, in order. Assumes nothing.
-use borrow.Author.Rules.{rules}
 use lib.Ieee.{of_bits}
 use Rattle.numbers.specs.Arithmetic.{decimal}
 use Rattle.surfaces.proofs.Refusals.{never_done}
 use Rattle.measured.specs.Surfaced.{sum_vec}
 use Rattle.measured.proofs.surfaced.total.Goals as goal
-
-pub enum_known-d : goal.enum_known-d
-unfolding sum_vec decimal of_bits
-enum_known-d c = search rules
-
-pub enum_told-1 : goal.enum_told-1
-unfolding sum_vec decimal of_bits
-enum_told-1 c = search rules
 
 pub returns-in-Given : goal.returns-in-Given
 unfolding sum_vec decimal of_bits

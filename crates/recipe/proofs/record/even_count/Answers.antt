@@ -1,12 +1,8 @@
+-- Drafted (tools/draft): opens Record.even_count, Record.odd_count.
 -- By the tests and the calls, in order. Assumes nothing.
-use borrow.Author.Rules.{rules}
 use borrow.Author.Tests.{eq-eqb, ne_eqb}
 use Rattle.recipe.specs.Record.{even_count, odd_count}
 use Rattle.recipe.proofs.record.even_count.Goals as goal
-
-pub overflow_sub-result : goal.overflow_sub-result
-unfolding even_count odd_count
-overflow_sub-result c = search rules
 
 pub returns-then-kind-eq-KIND_EVEN_ASPHERE : goal.returns-then-kind-eq-KIND_EVEN_ASPHERE
 unfolding even_count odd_count

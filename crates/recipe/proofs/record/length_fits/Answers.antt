@@ -1,4 +1,4 @@
--- By the tests and the calls, in order. Assumes nothing.
+-- Drafted (tools/draft): opens Record.length_fits. By the tests and the calls, in order. Assumes nothing.
 use borrow.Author.Tests.{eq-eqb, ne_eqb}
 use Rattle.recipe.specs.Record.{length_fits}
 use Rattle.recipe.proofs.record.length_fits.Goals as goal

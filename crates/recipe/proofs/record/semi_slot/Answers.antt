@@ -1,4 +1,4 @@
--- By the tests and the calls, in order. Assumes nothing.
+-- Drafted (tools/draft): opens Record.semi_slot. By the tests and the calls, in order. Assumes nothing.
 use borrow.Author.Tests.{eq-eqb, ne_eqb}
 use Rattle.recipe.specs.Record.{semi_slot}
 use Rattle.recipe.proofs.record.semi_slot.Goals as goal

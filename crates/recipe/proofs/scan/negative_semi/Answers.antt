@@ -1,4 +1,4 @@
--- By the tests and the calls, in order. Assumes nothing.
+-- Drafted (tools/draft): opens Record.negative_semi. By the tests and the calls, in order. Assumes nothing.
 use borrow.Author.Tests.{eq-eqb, ne_eqb}
 use Rattle.recipe.specs.Record.{negative_semi}
 use Rattle.recipe.proofs.scan.negative_semi.Goals as goal

@@ -1,21 +1,12 @@
+-- Drafted (tools/draft): opens Asphere.normal_of; refused by Refusals.never_done.
 -- By the tests and the calls, in order. Assumes nothing.
-use borrow.Author.Rules.{rules}
 use Rattle.surfaces.specs.Asphere.{normal_of}
 use Rattle.surfaces.proofs.Refusals.{never_done}
 use Rattle.surfaces.proofs.asphere.normal_of.Goals as goal
 
-pub enum_known-m : goal.enum_known-m
-unfolding normal_of
-enum_known-m c = search rules
-
-pub enum_known-m-in-Refused-1 : goal.enum_known-m-in-Refused-1
-unfolding normal_of
-enum_known-m-in-Refused-1 c = search rules
-
 pub returns-in-Given : goal.returns-in-Given
 unfolding normal_of
-returns-in-Given c =
-    rw (c.in-Given.is, ← c.length_of.ensures, ← c.facing.ensures)
+returns-in-Given c = rw (c.in-Given.is, ← c.length_of.ensures, ← c.facing.ensures)
 
 pub returns-in-Refused : goal.returns-in-Refused
 unfolding normal_of

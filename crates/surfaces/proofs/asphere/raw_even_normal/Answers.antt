@@ -1,5 +1,5 @@
+-- Drafted (tools/draft): opens Asphere.even_normal, Types.distance; refused by Refusals.never_done.
 -- By the tests and the calls, in order. Assumes nothing.
-use borrow.Author.Rules.{rules}
 use lib.Ieee.{of_bits}
 use Rattle.numbers.specs.Arithmetic.{decimal}
 use Rattle.surfaces.specs.Asphere.{even_normal}
@@ -9,16 +9,7 @@ use Rattle.surfaces.proofs.asphere.raw_even_normal.Goals as goal
 
 pub returns-then-r : goal.returns-then-r
 unfolding even_normal distance decimal of_bits
-returns-then-r c =
-    rw (← c.sqrt-r.ensures, c.if-r.true, ← c.backwards.ensures)
-
-pub enum_known-d : goal.enum_known-d
-unfolding even_normal distance decimal of_bits
-enum_known-d c = search rules
-
-pub enum_known-e : goal.enum_known-e
-unfolding even_normal distance decimal of_bits
-enum_known-e c = search rules
+returns-then-r c = rw (← c.sqrt-r.ensures, c.if-r.true, ← c.backwards.ensures)
 
 pub returns-in-Given : goal.returns-in-Given
 unfolding even_normal distance decimal of_bits
@@ -27,5 +18,4 @@ returns-in-Given c =
 
 pub returns-in-Refused : goal.returns-in-Refused
 unfolding even_normal distance decimal of_bits
-returns-in-Refused c =
-    rw (← c.sqrt-r.ensures, c.if-r.false, ← c.raw_even_slope.ensures, c.in-Refused.is, never_done)
+returns-in-Refused c = rw (← c.sqrt-r.ensures, c.if-r.false, ← c.raw_even_slope.ensures, c.in-Refused.is, never_done)

@@ -1,5 +1,5 @@
+-- Drafted (tools/draft): opens nothing; first Depths.even_slope_lem _ _ _ _.
 -- By the tests and the calls, in order. Assumes nothing.
-use borrow.Author.Rules.{rules}
 use lib.Ieee.{of_bits}
 use Rattle.numbers.specs.Arithmetic.{decimal}
 use Rattle.surfaces.proofs.Depths.{even_slope_lem}
@@ -8,14 +8,6 @@ use Rattle.surfaces.proofs.asphere.raw_even_slope.Goals as goal
 pub returns-then-is_finite-r : goal.returns-then-is_finite-r
 unfolding decimal of_bits
 returns-then-is_finite-r c = rw (even_slope_lem _ _ _ _, ← c.is_finite.ensures, c.if-is_finite-r.true)
-
-pub enum_known-s : goal.enum_known-s
-unfolding decimal of_bits
-enum_known-s c = search rules
-
-pub enum_told-1 : goal.enum_told-1
-unfolding decimal of_bits
-enum_told-1 c = search rules
 
 pub returns-in-Given : goal.returns-in-Given
 unfolding decimal of_bits

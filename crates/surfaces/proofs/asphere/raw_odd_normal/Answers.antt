@@ -1,3 +1,4 @@
+-- Drafted (tools/draft): opens Asphere.odd_normal, Types.distance.
 -- By the tests and the calls, in order. Assumes nothing.
 use Rattle.surfaces.specs.Asphere.{odd_normal}
 use Rattle.surfaces.specs.Types.{distance}

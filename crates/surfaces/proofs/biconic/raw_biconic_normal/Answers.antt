@@ -1,4 +1,4 @@
--- By the tests and the calls, in order. Assumes nothing.
+-- Drafted (tools/draft): opens Biconic.biconic_normal. By the tests and the calls, in order. Assumes nothing.
 use Rattle.surfaces.specs.Biconic.{biconic_normal}
 use Rattle.surfaces.proofs.biconic.raw_biconic_normal.Goals as goal
 

@@ -1,5 +1,4 @@
--- By the tests and the calls, in order. Assumes nothing.
-use borrow.Author.Rules.{rules}
+-- Drafted (tools/draft): opens Biconic.biconic_slopes. By the tests and the calls, in order. Assumes nothing.
 use lib.Ieee.{of_bits}
 use Rattle.numbers.specs.Arithmetic.{decimal}
 use Rattle.surfaces.specs.Biconic.{biconic_slopes}
@@ -8,14 +7,6 @@ use Rattle.surfaces.proofs.biconic.raw_biconic_slopes.Goals as goal
 pub returns-then-on_axis : goal.returns-then-on_axis
 unfolding biconic_slopes decimal of_bits
 returns-then-on_axis c = rw (← c.on_axis.ensures, c.if-on_axis.true)
-
-pub enum_known-s : goal.enum_known-s
-unfolding biconic_slopes decimal of_bits
-enum_known-s c = search rules
-
-pub enum_told-1 : goal.enum_told-1
-unfolding biconic_slopes decimal of_bits
-enum_told-1 c = search rules
 
 pub returns-in-Given : goal.returns-in-Given
 unfolding biconic_slopes decimal of_bits
@@ -33,10 +24,4 @@ returns-in-Given c =
 pub returns-in-Outside : goal.returns-in-Outside
 unfolding biconic_slopes decimal of_bits
 returns-in-Outside c =
-    rw (
-      ← c.on_axis.ensures,
-      c.if-on_axis.false,
-      ← c.biconic_radicand.ensures,
-      ← c.edge_root.ensures,
-      c.in-Outside.is,
-    )
+    rw (← c.on_axis.ensures, c.if-on_axis.false, ← c.biconic_radicand.ensures, ← c.edge_root.ensures, c.in-Outside.is)

@@ -1,4 +1,4 @@
--- By the tests and the calls, in order. Assumes nothing.
+-- Drafted (tools/draft): opens Biconic.toroid_normal. By the tests and the calls, in order. Assumes nothing.
 use Rattle.surfaces.specs.Biconic.{toroid_normal}
 use Rattle.surfaces.proofs.biconic.raw_toroid_normal.Goals as goal
 

@@ -1,16 +1,8 @@
+-- Drafted (tools/draft): opens Types.hit_finite; refused by Refusals.never_done.
 -- By the tests and the calls, in order. Assumes nothing.
-use borrow.Author.Rules.{rules}
 use Rattle.surfaces.specs.Types.{hit_finite}
 use Rattle.surfaces.proofs.Refusals.{never_done}
 use Rattle.surfaces.proofs.conic.checked_meet.Goals as goal
-
-pub enum_known-a : goal.enum_known-a
-unfolding hit_finite
-enum_known-a c = search rules
-
-pub enum_told-1 : goal.enum_told-1
-unfolding hit_finite
-enum_told-1 c = search rules
 
 pub returns-then-is_finite-all_finite : goal.returns-then-is_finite-all_finite
 unfolding hit_finite

@@ -1,4 +1,4 @@
--- By the tests and the calls, in order. Assumes nothing.
+-- Drafted (tools/draft): opens Conic.conic_normal_answer. By the tests and the calls, in order. Assumes nothing.
 use Rattle.surfaces.specs.Conic.{conic_normal_answer}
 use Rattle.surfaces.proofs.conic.conic_normal.Goals as goal
 

@@ -1,4 +1,4 @@
--- By the tests and the calls, in order. Assumes nothing.
+-- Drafted (tools/draft): opens Conic.conic_sag_answer. By the tests and the calls, in order. Assumes nothing.
 use Rattle.surfaces.specs.Conic.{conic_sag_answer}
 use Rattle.surfaces.proofs.conic.conic_sag.Goals as goal
 

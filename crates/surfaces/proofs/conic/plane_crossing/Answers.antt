@@ -1,3 +1,4 @@
+-- Drafted (tools/draft): opens Conic.plane_crossing, Types.distance.
 -- By the tests and the calls, in order. Assumes nothing.
 use lib.Ieee.{of_bits}
 use Rattle.numbers.specs.Arithmetic.{decimal}

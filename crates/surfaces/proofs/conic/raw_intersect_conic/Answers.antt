@@ -1,35 +1,13 @@
+-- Drafted (tools/draft): opens Conic.conic_meet; refused by Refusals.never_done.
 -- By the tests and the calls, in order. Assumes nothing.
-use borrow.Author.Rules.{rules}
 use Rattle.surfaces.specs.Conic.{conic_meet}
 use Rattle.surfaces.proofs.Refusals.{never_done}
 use Rattle.surfaces.proofs.conic.raw_intersect_conic.Goals as goal
 
-pub enum_known-l : goal.enum_known-l
-unfolding conic_meet
-enum_known-l c = search rules
-
-pub enum_known-n : goal.enum_known-n
-unfolding conic_meet
-enum_known-n c = search rules
-
-pub enum_known-e : goal.enum_known-e
-unfolding conic_meet
-enum_known-e c = search rules
-
-pub enum_known-e-in-Refused-conic_crossing : goal.enum_known-e-in-Refused-conic_crossing
-unfolding conic_meet
-enum_known-e-in-Refused-conic_crossing c = search rules
-
 pub returns-in-Given-normal_at : goal.returns-in-Given-normal_at
 unfolding conic_meet
 returns-in-Given-normal_at c =
-    rw (
-      ← c.conic_crossing.ensures,
-      c.in-Given.is,
-      ← c.normal_at.ensures,
-      c.in-Given-normal_at.is,
-      ← c.hit_at.ensures,
-    )
+    rw (← c.conic_crossing.ensures, c.in-Given.is, ← c.normal_at.ensures, c.in-Given-normal_at.is, ← c.hit_at.ensures)
 
 pub returns-in-Refused-normal_at : goal.returns-in-Refused-normal_at
 unfolding conic_meet
@@ -38,5 +16,4 @@ returns-in-Refused-normal_at c =
 
 pub returns-in-Refused : goal.returns-in-Refused
 unfolding conic_meet
-returns-in-Refused c =
-    rw (← c.conic_crossing.ensures, c.in-Refused.is, never_done)
+returns-in-Refused c = rw (← c.conic_crossing.ensures, c.in-Refused.is, never_done)

@@ -1,29 +1,14 @@
--- By the tests and the calls, in order. Assumes nothing.
-use borrow.Author.Rules.{rules}
+-- Drafted (tools/draft): opens Parts.depth_of. By the tests and the calls, in order. Assumes nothing.
 use Rattle.surfaces.specs.Parts.{depth_of}
 use Rattle.surfaces.proofs.newton.depth.Goals as goal
 
-pub enum_known-q : goal.enum_known-q
-unfolding depth_of
-enum_known-q c = search rules
-
-pub enum_known-q-in-Biconic-1 : goal.enum_known-q-in-Biconic-1
-unfolding depth_of
-enum_known-q-in-Biconic-1 c = search rules
-
-pub enum_known-q-in-Toroid-1 : goal.enum_known-q-in-Toroid-1
-unfolding depth_of
-enum_known-q-in-Toroid-1 c = search rules
-
 pub returns-then-odd : goal.returns-then-odd
 unfolding depth_of
-returns-then-odd c =
-    rw (c.in-Asphere.is, c.if-odd.true, ← c.sqrt.ensures, ← c.odd_depth.ensures)
+returns-then-odd c = rw (c.in-Asphere.is, c.if-odd.true, ← c.sqrt.ensures, ← c.odd_depth.ensures)
 
 pub returns-else-odd : goal.returns-else-odd
 unfolding depth_of
-returns-else-odd c =
-    rw (c.in-Asphere.is, c.if-odd.false, ← c.sqrt-else-odd.ensures, ← c.even_depth.ensures)
+returns-else-odd c = rw (c.in-Asphere.is, c.if-odd.false, ← c.sqrt-else-odd.ensures, ← c.even_depth.ensures)
 
 pub returns-in-Biconic : goal.returns-in-Biconic
 unfolding depth_of

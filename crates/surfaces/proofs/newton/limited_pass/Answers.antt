@@ -1,5 +1,6 @@
+-- Drafted (tools/draft): opens Newton.limited_pass; refused by Refusals.never_going; after in-Again Shared.kind_alone _
+-- _ Types.no_polynomial _ numbers.Arithmetic.0f .1.
 -- By the tests and the calls, in order. Assumes nothing.
-use borrow.Author.Rules.{rules}
 use borrow.Author.Tests.{le-leb, lt-leb}
 use Rattle.numbers.specs.Arithmetic.{0f}
 use Rattle.surfaces.specs.Newton.{limited_pass}
@@ -7,26 +8,6 @@ use Rattle.surfaces.proofs.Refusals.{never_going}
 use Rattle.surfaces.proofs.Shared.{kind_alone}
 use Rattle.surfaces.specs.Types.{no_polynomial}
 use Rattle.surfaces.proofs.newton.limited_pass.Goals as goal
-
-pub enum_told-1 : goal.enum_told-1
-unfolding limited_pass
-enum_told-1 c = search rules
-
-pub overflow_cast-profile_limit : goal.overflow_cast-profile_limit
-unfolding limited_pass
-overflow_cast-profile_limit c = search rules
-
-pub overflow_add-made : goal.overflow_add-made
-unfolding limited_pass
-overflow_add-made c = search rules
-
-pub enum_told-in-Given : goal.enum_told-in-Given
-unfolding limited_pass
-enum_told-in-Given c = search rules
-
-pub enum_told-in-Refused : goal.enum_told-in-Refused
-unfolding limited_pass
-enum_told-in-Refused c = search rules
 
 pub returns-then-profile_limit-made : goal.returns-then-profile_limit-made
 unfolding limited_pass

@@ -1,4 +1,4 @@
--- By the tests and the calls, in order. Assumes nothing.
+-- Drafted (tools/draft): opens Newton.moved_by. By the tests and the calls, in order. Assumes nothing.
 use lib.Ieee.{of_bits}
 use Rattle.numbers.specs.Arithmetic.{decimal}
 use Rattle.surfaces.specs.Newton.{moved_by}
@@ -11,16 +11,8 @@ returns-then-abs c = rw (← c.abs.ensures, c.if-abs.true)
 pub returns-then-abs-2 : goal.returns-then-abs-2
 unfolding moved_by decimal of_bits
 returns-then-abs-2 c =
-    rw (
-      ← c.abs.ensures,
-      c.if-abs.false,
-      ← c.abs-2.ensures,
-      c.if-abs-2.true,
-      ← c.arrived.ensures,
-      ← c.ended.ensures,
-    )
+    rw (← c.abs.ensures, c.if-abs.false, ← c.abs-2.ensures, c.if-abs-2.true, ← c.arrived.ensures, ← c.ended.ensures)
 
 pub returns : goal.returns
 unfolding moved_by decimal of_bits
-returns c =
-    rw (← c.abs.ensures, c.if-abs.false, ← c.abs-2.ensures, c.if-abs-2.false)
+returns c = rw (← c.abs.ensures, c.if-abs.false, ← c.abs-2.ensures, c.if-abs-2.false)

@@ -1,4 +1,4 @@
--- By the tests and the calls, in order. Assumes nothing.
+-- Drafted (tools/draft): opens Newton.next_pass. By the tests and the calls, in order. Assumes nothing.
 use lib.Ieee.{of_bits}
 use Rattle.numbers.specs.Arithmetic.{decimal}
 use Rattle.surfaces.specs.Newton.{next_pass}
@@ -10,5 +10,4 @@ returns-then-made-abs c = rw (← c.abs.ensures, c.if-made-abs.true, ← c.misse
 
 pub returns : goal.returns
 unfolding next_pass decimal of_bits
-returns c =
-    rw (← c.abs.ensures, c.if-made-abs.false, ← c.pass_start.ensures, ← c.pass_at.ensures)
+returns c = rw (← c.abs.ensures, c.if-made-abs.false, ← c.pass_start.ensures, ← c.pass_at.ensures)

@@ -1,4 +1,4 @@
--- By the tests and the calls, in order. Assumes nothing.
+-- Drafted (tools/draft): opens Newton.pass_start. By the tests and the calls, in order. Assumes nothing.
 use borrow.Author.Tests.{eq-eqb, ne_eqb}
 use Rattle.surfaces.specs.Newton.{pass_start}
 use Rattle.surfaces.proofs.newton.pass_start.Goals as goal

@@ -1,29 +1,14 @@
--- By the tests and the calls, in order. Assumes nothing.
-use borrow.Author.Rules.{rules}
+-- Drafted (tools/draft): opens Parts.slopes_from. By the tests and the calls, in order. Assumes nothing.
 use Rattle.surfaces.specs.Parts.{slopes_from}
 use Rattle.surfaces.proofs.newton.slopes_from.Goals as goal
 
-pub enum_known-q : goal.enum_known-q
-unfolding slopes_from
-enum_known-q c = search rules
-
-pub enum_known-q-in-Biconic-1 : goal.enum_known-q-in-Biconic-1
-unfolding slopes_from
-enum_known-q-in-Biconic-1 c = search rules
-
-pub enum_known-q-in-Toroid-1 : goal.enum_known-q-in-Toroid-1
-unfolding slopes_from
-enum_known-q-in-Toroid-1 c = search rules
-
 pub returns-then-odd : goal.returns-then-odd
 unfolding slopes_from
-returns-then-odd c =
-    rw (c.in-Asphere.is, c.if-odd.true, ← c.odd_slopes_from.ensures)
+returns-then-odd c = rw (c.in-Asphere.is, c.if-odd.true, ← c.odd_slopes_from.ensures)
 
 pub returns-else-odd : goal.returns-else-odd
 unfolding slopes_from
-returns-else-odd c =
-    rw (c.in-Asphere.is, c.if-odd.false, ← c.even_slopes_from.ensures)
+returns-else-odd c = rw (c.in-Asphere.is, c.if-odd.false, ← c.even_slopes_from.ensures)
 
 pub returns-in-Biconic : goal.returns-in-Biconic
 unfolding slopes_from

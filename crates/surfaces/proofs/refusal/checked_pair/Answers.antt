@@ -1,16 +1,8 @@
+-- Drafted (tools/draft): opens Types.both_finite; refused by Refusals.never_done.
 -- By the tests and the calls, in order. Assumes nothing.
-use borrow.Author.Rules.{rules}
 use Rattle.surfaces.specs.Types.{both_finite}
 use Rattle.surfaces.proofs.Refusals.{never_done}
 use Rattle.surfaces.proofs.refusal.checked_pair.Goals as goal
-
-pub enum_known-a : goal.enum_known-a
-unfolding both_finite
-enum_known-a c = search rules
-
-pub enum_told-1 : goal.enum_told-1
-unfolding both_finite
-enum_told-1 c = search rules
 
 pub returns-then-is_finite : goal.returns-then-is_finite
 unfolding both_finite

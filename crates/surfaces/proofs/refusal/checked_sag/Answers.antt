@@ -1,14 +1,13 @@
+-- Drafted (tools/draft): opens nothing; refused by Refusals.never_done.
 -- By the tests and the calls, in order. Assumes nothing.
 use Rattle.surfaces.proofs.Refusals.{never_done}
 use Rattle.surfaces.proofs.refusal.checked_sag.Goals as goal
 
 pub returns-then-is_finite : goal.returns-then-is_finite
-returns-then-is_finite c =
-    rw (c.in-Given.is, ← c.is_finite.ensures, c.if-is_finite.true)
+returns-then-is_finite c = rw (c.in-Given.is, ← c.is_finite.ensures, c.if-is_finite.true)
 
 pub returns-else-is_finite : goal.returns-else-is_finite
-returns-else-is_finite c =
-    rw (c.in-Given.is, ← c.is_finite.ensures, c.if-is_finite.false)
+returns-else-is_finite c = rw (c.in-Given.is, ← c.is_finite.ensures, c.if-is_finite.false)
 
 pub returns-in-Refused : goal.returns-in-Refused
 returns-in-Refused c = rw (c.in-Refused.is, never_done)

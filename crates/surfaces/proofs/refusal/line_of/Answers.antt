@@ -1,4 +1,4 @@
--- By the tests and the calls, in order. Assumes nothing.
+-- Drafted (tools/draft): opens nothing. By the tests and the calls, in order. Assumes nothing.
 use Rattle.surfaces.proofs.refusal.line_of.Goals as goal
 
 pub returns-in-InvalidParameter : goal.returns-in-InvalidParameter

@@ -1,4 +1,4 @@
--- By the tests and the calls, in order. Assumes nothing.
+-- Drafted (tools/draft): opens Parts.base_sag_from. By the tests and the calls, in order. Assumes nothing.
 use lib.Ieee.{of_bits}
 use Rattle.numbers.specs.Arithmetic.{decimal}
 use Rattle.surfaces.specs.Parts.{base_sag_from}

@@ -1,5 +1,4 @@
--- By the tests and the calls, in order. Assumes nothing.
-use borrow.Author.Rules.{rules}
+-- Drafted (tools/draft): opens Parts.biconic_depth. By the tests and the calls, in order. Assumes nothing.
 use lib.Ieee.{of_bits}
 use Rattle.numbers.specs.Arithmetic.{decimal}
 use Rattle.surfaces.specs.Parts.{biconic_depth}
@@ -7,16 +6,7 @@ use Rattle.surfaces.proofs.sags.biconic_depth.Goals as goal
 
 pub returns-then-not-is_finite : goal.returns-then-not-is_finite
 unfolding biconic_depth decimal of_bits
-returns-then-not-is_finite c =
-    rw (← c.is_finite.ensures, ← c.is_finite-2.ensures, c.if-not-is_finite.true)
-
-pub enum_known-s : goal.enum_known-s
-unfolding biconic_depth decimal of_bits
-enum_known-s c = search rules
-
-pub enum_told-1 : goal.enum_told-1
-unfolding biconic_depth decimal of_bits
-enum_told-1 c = search rules
+returns-then-not-is_finite c = rw (← c.is_finite.ensures, ← c.is_finite-2.ensures, c.if-not-is_finite.true)
 
 pub returns-in-Given : goal.returns-in-Given
 unfolding biconic_depth decimal of_bits

@@ -1,4 +1,4 @@
--- By the tests and the calls, in order. Assumes nothing.
+-- Drafted (tools/draft): opens Parts.biconic_slopes_from. By the tests and the calls, in order. Assumes nothing.
 use lib.Ieee.{of_bits}
 use Rattle.numbers.specs.Arithmetic.{decimal}
 use Rattle.surfaces.specs.Parts.{biconic_slopes_from}
@@ -10,5 +10,4 @@ returns-then-on_axis c = rw (← c.on_axis.ensures, c.if-on_axis.true)
 
 pub returns : goal.returns
 unfolding biconic_slopes_from decimal of_bits
-returns c =
-    rw (← c.on_axis.ensures, c.if-on_axis.false, ← c.biconic_slopes_at.ensures)
+returns c = rw (← c.on_axis.ensures, c.if-on_axis.false, ← c.biconic_slopes_at.ensures)

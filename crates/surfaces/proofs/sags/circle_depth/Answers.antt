@@ -1,20 +1,10 @@
--- By the tests and the calls, in order. Assumes nothing.
-use borrow.Author.Rules.{rules}
+-- Drafted (tools/draft): opens Parts.circle_depth. By the tests and the calls, in order. Assumes nothing.
 use Rattle.surfaces.specs.Parts.{circle_depth}
 use Rattle.surfaces.proofs.sags.circle_depth.Goals as goal
 
-pub enum_known-s : goal.enum_known-s
-unfolding circle_depth
-enum_known-s c = search rules
-
-pub enum_told-1 : goal.enum_told-1
-unfolding circle_depth
-enum_told-1 c = search rules
-
 pub returns-in-Given : goal.returns-in-Given
 unfolding circle_depth
-returns-in-Given c =
-    rw (← c.edge_root_beside.ensures, c.in-Given.is, ← c.sign_of.ensures)
+returns-in-Given c = rw (← c.edge_root_beside.ensures, c.in-Given.is, ← c.sign_of.ensures)
 
 pub returns-in-Outside : goal.returns-in-Outside
 unfolding circle_depth

@@ -1,4 +1,4 @@
--- By the tests and the calls, in order. Assumes nothing.
+-- Drafted (tools/draft): opens Biconic.circle_slopes_at. By the tests and the calls, in order. Assumes nothing.
 use Rattle.surfaces.specs.Biconic.{circle_slopes_at}
 use Rattle.surfaces.proofs.sags.circle_slopes_at.Goals as goal
 

@@ -1,25 +1,15 @@
+-- Drafted (tools/draft): opens Parts.even_slopes_from; refused by Refusals.never_done.
 -- By the tests and the calls, in order. Assumes nothing.
-use borrow.Author.Rules.{rules}
 use lib.Ieee.{of_bits}
 use Rattle.numbers.specs.Arithmetic.{decimal}
 use Rattle.surfaces.specs.Parts.{even_slopes_from}
 use Rattle.surfaces.proofs.Refusals.{never_done}
 use Rattle.surfaces.proofs.sags.even_slopes_from.Goals as goal
 
-pub enum_known-d : goal.enum_known-d
-unfolding even_slopes_from decimal of_bits
-enum_known-d c = search rules
-
-pub enum_known-e : goal.enum_known-e
-unfolding even_slopes_from decimal of_bits
-enum_known-e c = search rules
-
 pub returns-in-Given : goal.returns-in-Given
 unfolding even_slopes_from decimal of_bits
-returns-in-Given c =
-    rw (← c.even_slope_from.ensures, c.in-Given.is, ← c.radial_slopes.ensures)
+returns-in-Given c = rw (← c.even_slope_from.ensures, c.in-Given.is, ← c.radial_slopes.ensures)
 
 pub returns-in-Refused : goal.returns-in-Refused
 unfolding even_slopes_from decimal of_bits
-returns-in-Refused c =
-    rw (← c.even_slope_from.ensures, c.in-Refused.is, never_done)
+returns-in-Refused c = rw (← c.even_slope_from.ensures, c.in-Refused.is, never_done)

@@ -1,5 +1,4 @@
--- By the tests and the calls, in order. Assumes nothing.
-use borrow.Author.Rules.{rules}
+-- Drafted (tools/draft): opens Parts.odd_depth. By the tests and the calls, in order. Assumes nothing.
 use lib.Ieee.{of_bits}
 use Rattle.numbers.specs.Arithmetic.{decimal}
 use Rattle.surfaces.specs.Parts.{odd_depth}
@@ -8,14 +7,6 @@ use Rattle.surfaces.proofs.sags.odd_depth.Goals as goal
 pub returns-then-is_finite-r : goal.returns-then-is_finite-r
 unfolding odd_depth decimal of_bits
 returns-then-is_finite-r c = rw (← c.is_finite.ensures, c.if-is_finite-r.true)
-
-pub enum_known-s : goal.enum_known-s
-unfolding odd_depth decimal of_bits
-enum_known-s c = search rules
-
-pub enum_told-1 : goal.enum_told-1
-unfolding odd_depth decimal of_bits
-enum_told-1 c = search rules
 
 pub returns-in-Given : goal.returns-in-Given
 unfolding odd_depth decimal of_bits
@@ -32,5 +23,4 @@ returns-in-Given c =
 
 pub returns-in-Outside : goal.returns-in-Outside
 unfolding odd_depth decimal of_bits
-returns-in-Outside c =
-    rw (← c.is_finite.ensures, c.if-is_finite-r.false, ← c.base_root.ensures, c.in-Outside.is)
+returns-in-Outside c = rw (← c.is_finite.ensures, c.if-is_finite-r.false, ← c.base_root.ensures, c.in-Outside.is)

@@ -1,4 +1,4 @@
--- By the tests and the calls, in order. Assumes nothing.
+-- Drafted (tools/draft): opens Snell.negated_if. By the tests and the calls, in order. Assumes nothing.
 use Rattle.surfaces.specs.Snell.{negated_if}
 use Rattle.surfaces.proofs.snell.negated_if.Goals as goal
 

@@ -1,4 +1,4 @@
--- By the tests and the calls, in order. Assumes nothing.
+-- Drafted (tools/draft): opens Snell.reflect_answer. By the tests and the calls, in order. Assumes nothing.
 use Rattle.surfaces.specs.Snell.{reflect_answer}
 use Rattle.surfaces.proofs.snell.reflect.Goals as goal
 

@@ -1,4 +1,4 @@
--- By the tests and the calls, in order. Assumes nothing.
+-- Drafted (tools/draft): opens Snell.refract_answer. By the tests and the calls, in order. Assumes nothing.
 use Rattle.surfaces.specs.Snell.{refract_answer}
 use Rattle.surfaces.proofs.snell.snell_refract.Goals as goal
 

@@ -1,4 +1,4 @@
--- By the tests and the calls, in order. Assumes nothing.
+-- Drafted (tools/draft): opens Snell.turned_if. By the tests and the calls, in order. Assumes nothing.
 use Rattle.surfaces.specs.Snell.{turned_if}
 use Rattle.surfaces.proofs.snell.turned_if.Goals as goal
 

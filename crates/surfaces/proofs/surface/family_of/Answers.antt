@@ -1,4 +1,4 @@
--- By the tests and the calls, in order. Assumes nothing.
+-- Drafted (tools/draft): opens nothing. By the tests and the calls, in order. Assumes nothing.
 use Rattle.surfaces.proofs.surface.family_of.Goals as goal
 
 pub returns-in-Conic : goal.returns-in-Conic

@@ -1,26 +1,10 @@
+-- Drafted (tools/draft): opens Surface.turn_answer; refused by Refusals.never_done.
 -- By the tests and the calls, in order. Assumes nothing.
-use borrow.Author.Rules.{rules}
 use lib.Ieee.{of_bits}
 use Rattle.numbers.specs.Arithmetic.{decimal}
 use Rattle.surfaces.specs.Surface.{turn_answer}
 use Rattle.surfaces.proofs.Refusals.{never_done}
 use Rattle.surfaces.proofs.surface.turn.Goals as goal
-
-pub enum_known-n : goal.enum_known-n
-unfolding turn_answer decimal of_bits
-enum_known-n c = search rules
-
-pub enum_known-v : goal.enum_known-v
-unfolding turn_answer decimal of_bits
-enum_known-v c = search rules
-
-pub enum_known-e : goal.enum_known-e
-unfolding turn_answer decimal of_bits
-enum_known-e c = search rules
-
-pub enum_known-e-in-Refused-normal : goal.enum_known-e-in-Refused-normal
-unfolding turn_answer decimal of_bits
-enum_known-e-in-Refused-normal c = search rules
 
 pub returns-in-Given-onward : goal.returns-in-Given-onward
 unfolding turn_answer decimal of_bits
@@ -34,5 +18,4 @@ returns-in-Refused-onward c =
 
 pub returns-in-Refused : goal.returns-in-Refused
 unfolding turn_answer decimal of_bits
-returns-in-Refused c =
-    rw (← c.normal.ensures, c.in-Refused.is, never_done)
+returns-in-Refused c = rw (← c.normal.ensures, c.in-Refused.is, never_done)

@@ -1,4 +1,4 @@
--- By the tests and the calls, in order. Assumes nothing.
+-- Drafted (tools/draft): opens Types.coefficients_good. By the tests and the calls, in order. Assumes nothing.
 use Rattle.surfaces.specs.Types.{coefficients_good}
 use Rattle.surfaces.proofs.types.coefficients_good.Goals as goal
 

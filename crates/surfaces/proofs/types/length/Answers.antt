@@ -1,4 +1,4 @@
--- By the tests and the calls, in order. Assumes nothing.
+-- Drafted (tools/draft): opens Types.vector_length. By the tests and the calls, in order. Assumes nothing.
 use Rattle.surfaces.specs.Types.{vector_length}
 use Rattle.surfaces.proofs.types.length.Goals as goal
 

@@ -1,3 +1,4 @@
+-- Drafted (tools/draft): opens nothing; forward no_coefficients, no_coefficients-2.
 -- By the tests and the calls, in order. Assumes nothing.
 use Rattle.surfaces.proofs.types.no_polynomial.Goals as goal
 

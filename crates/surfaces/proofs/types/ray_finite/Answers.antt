@@ -1,4 +1,4 @@
--- By the tests and the calls, in order. Assumes nothing.
+-- Drafted (tools/draft): opens Types.ray_finite. By the tests and the calls, in order. Assumes nothing.
 use Rattle.surfaces.specs.Types.{ray_finite}
 use Rattle.surfaces.proofs.types.ray_finite.Goals as goal
 

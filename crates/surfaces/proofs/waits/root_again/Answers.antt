@@ -1,4 +1,4 @@
--- By the tests and the calls, in order. Assumes nothing.
+-- Drafted (tools/draft): opens Parts.root_again. By the tests and the calls, in order. Assumes nothing.
 use Rattle.surfaces.specs.Parts.{root_again}
 use Rattle.surfaces.proofs.waits.root_again.Goals as goal
 

@@ -1,4 +1,4 @@
--- By the tests and the calls, in order. Assumes nothing.
+-- Drafted (tools/draft): opens Leg.beam_after. By the tests and the calls, in order. Assumes nothing.
 use Rattle.trace.specs.Leg.{beam_after}
 use Rattle.trace.proofs.leg.beam_after.Goals as goal
 

@@ -1,4 +1,4 @@
--- By the tests and the calls, in order. Assumes nothing.
+-- Drafted (tools/draft): opens Leg.boundary_of. By the tests and the calls, in order. Assumes nothing.
 use Rattle.trace.specs.Leg.{boundary_of}
 use Rattle.trace.proofs.leg.boundary.Goals as goal
 

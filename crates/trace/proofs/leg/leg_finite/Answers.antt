@@ -1,4 +1,4 @@
--- By the tests and the calls, in order. Assumes nothing.
+-- Drafted (tools/draft): opens Leg.leg_finite. By the tests and the calls, in order. Assumes nothing.
 use Rattle.trace.specs.Leg.{leg_finite}
 use Rattle.trace.proofs.leg.leg_finite.Goals as goal
 

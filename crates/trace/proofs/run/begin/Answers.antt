@@ -1,14 +1,9 @@
--- By the tests and the calls, in order. Assumes nothing.
-use borrow.Author.Rules.{rules}
+-- Drafted (tools/draft): opens Run.begun_of. By the tests and the calls, in order. Assumes nothing.
 use borrow.Author.Tests.{eq-eqb, ne_eqb}
 use lib.Ieee.{of_bits}
 use Rattle.numbers.specs.Arithmetic.{decimal}
 use Rattle.trace.specs.Run.{begun_of}
 use Rattle.trace.proofs.run.begin.Goals as goal
-
-pub overflow_add-base : goal.overflow_add-base
-unfolding begun_of decimal of_bits
-overflow_add-base c = search rules
 
 pub returns-then-c-ne-ACCEPTED : goal.returns-then-c-ne-ACCEPTED
 unfolding begun_of decimal of_bits

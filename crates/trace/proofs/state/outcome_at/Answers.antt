@@ -1,4 +1,4 @@
--- By the tests and the calls, in order. Assumes nothing.
+-- Drafted (tools/draft): opens nothing. By the tests and the calls, in order. Assumes nothing.
 use borrow.Author.Tests.{eq-eqb, ne_eqb}
 use Rattle.trace.proofs.state.outcome_at.Goals as goal
 

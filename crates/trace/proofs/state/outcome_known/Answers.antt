@@ -1,4 +1,4 @@
--- By the tests and the calls, in order. Assumes nothing.
+-- Drafted (tools/draft): opens State.outcome_known. By the tests and the calls, in order. Assumes nothing.
 use mathlib.Core.Path.{refl}
 use Rattle.trace.specs.State.{outcome_known}
 use Rattle.trace.proofs.state.outcome_known.Goals as goal

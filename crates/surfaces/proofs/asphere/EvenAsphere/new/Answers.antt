@@ -1,4 +1,4 @@
--- By the tests and the calls, in order. Assumes nothing.
+-- Drafted (tools/draft): opens Asphere.new_even_answer. By the tests and the calls, in order. Assumes nothing.
 use lib.Ieee.{of_bits}
 use Rattle.numbers.specs.Arithmetic.{decimal}
 use Rattle.surfaces.specs.Asphere.{new_even_answer}
@@ -6,8 +6,7 @@ use Rattle.surfaces.proofs.asphere.EvenAsphere.new.Goals as goal
 
 pub returns-then-is_good-semi : goal.returns-then-is_good-semi
 unfolding new_even_answer decimal of_bits
-returns-then-is_good-semi c =
-    rw (← c.is_good.ensures, c.if-is_good-semi.true, ← c.no_coefficients.ensures)
+returns-then-is_good-semi c = rw (← c.is_good.ensures, c.if-is_good-semi.true, ← c.no_coefficients.ensures)
 
 pub returns : goal.returns
 unfolding new_even_answer decimal of_bits

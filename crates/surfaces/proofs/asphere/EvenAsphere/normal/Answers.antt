@@ -1,4 +1,4 @@
--- By the tests and the calls, in order. Assumes nothing.
+-- Drafted (tools/draft): opens Asphere.even_normal_answer. By the tests and the calls, in order. Assumes nothing.
 use Rattle.surfaces.specs.Asphere.{even_normal_answer}
 use Rattle.surfaces.proofs.asphere.EvenAsphere.normal.Goals as goal
 

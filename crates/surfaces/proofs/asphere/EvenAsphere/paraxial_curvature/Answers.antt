@@ -1,4 +1,4 @@
--- By the tests and the calls, in order. Assumes nothing.
+-- Drafted (tools/draft): opens Asphere.even_paraxial_answer. By the tests and the calls, in order. Assumes nothing.
 use lib.Ieee.{of_bits}
 use Rattle.numbers.specs.Arithmetic.{decimal}
 use Rattle.surfaces.specs.Asphere.{even_paraxial_answer}
@@ -10,5 +10,4 @@ returns-then-not-is_good c = rw (← c.is_good.ensures, c.if-not-is_good.true)
 
 pub returns : goal.returns
 unfolding even_paraxial_answer decimal of_bits
-returns c =
-    rw (← c.is_good.ensures, c.if-not-is_good.false, ← c.first_or_zero.ensures, ← c.checked_number.ensures)
+returns c = rw (← c.is_good.ensures, c.if-not-is_good.false, ← c.first_or_zero.ensures, ← c.checked_number.ensures)

@@ -1,11 +1,10 @@
--- By the tests and the calls, in order. Assumes nothing.
+-- Drafted (tools/draft): opens Asphere.odd_crossing_answer. By the tests and the calls, in order. Assumes nothing.
 use Rattle.surfaces.specs.Asphere.{odd_crossing_answer}
 use Rattle.surfaces.proofs.asphere.OddAsphere.intersect_ray.Goals as goal
 
 pub returns-then-not-can_be_met : goal.returns-then-not-can_be_met
 unfolding odd_crossing_answer
-returns-then-not-can_be_met c =
-    rw (← c.is_good.ensures, ← c.can_be_met.ensures, c.if-not-can_be_met.true)
+returns-then-not-can_be_met c = rw (← c.is_good.ensures, ← c.can_be_met.ensures, c.if-not-can_be_met.true)
 
 pub returns : goal.returns
 unfolding odd_crossing_answer

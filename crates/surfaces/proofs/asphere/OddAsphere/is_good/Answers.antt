@@ -1,4 +1,4 @@
--- By the tests and the calls, in order. Assumes nothing.
+-- Drafted (tools/draft): opens Asphere.odd_good. By the tests and the calls, in order. Assumes nothing.
 use Rattle.surfaces.specs.Asphere.{odd_good}
 use Rattle.surfaces.proofs.asphere.OddAsphere.is_good.Goals as goal
 

@@ -1,3 +1,4 @@
+-- Drafted (tools/draft): opens Asphere.new_odd_answer; forward no_coefficients, no_coefficients-then-is_good-semi.
 -- By the tests and the calls, in order. Assumes nothing.
 use lib.Ieee.{of_bits}
 use Rattle.numbers.specs.Arithmetic.{decimal}

@@ -1,4 +1,4 @@
--- By the tests and the calls, in order. Assumes nothing.
+-- Drafted (tools/draft): opens Asphere.odd_normal_answer. By the tests and the calls, in order. Assumes nothing.
 use Rattle.surfaces.specs.Asphere.{odd_normal_answer}
 use Rattle.surfaces.proofs.asphere.OddAsphere.normal.Goals as goal
 

@@ -1,4 +1,4 @@
--- By the tests and the calls, in order. Assumes nothing.
+-- Drafted (tools/draft): opens Biconic.biconic_slopes_answer. By the tests and the calls, in order. Assumes nothing.
 use Rattle.surfaces.specs.Biconic.{biconic_slopes_answer}
 use Rattle.surfaces.proofs.biconic.BiconicSurface.derivatives.Goals as goal
 

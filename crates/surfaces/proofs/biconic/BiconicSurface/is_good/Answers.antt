@@ -1,4 +1,4 @@
--- By the tests and the calls, in order. Assumes nothing.
+-- Drafted (tools/draft): opens Biconic.biconic_good. By the tests and the calls, in order. Assumes nothing.
 use Rattle.surfaces.specs.Biconic.{biconic_good}
 use Rattle.surfaces.proofs.biconic.BiconicSurface.is_good.Goals as goal
 

@@ -1,4 +1,4 @@
--- By the tests and the calls, in order. Assumes nothing.
+-- Drafted (tools/draft): opens Biconic.biconic_paraxial_answer. By the tests and the calls, in order. Assumes nothing.
 use Rattle.surfaces.specs.Biconic.{biconic_paraxial_answer}
 use Rattle.surfaces.proofs.biconic.BiconicSurface.paraxial_curvatures.Goals as goal
 
@@ -8,5 +8,4 @@ returns-then-not-is_good c = rw (← c.is_good.ensures, c.if-not-is_good.true)
 
 pub returns : goal.returns
 unfolding biconic_paraxial_answer
-returns c =
-    rw (← c.is_good.ensures, c.if-not-is_good.false, ← c.checked_pair.ensures)
+returns c = rw (← c.is_good.ensures, c.if-not-is_good.false, ← c.checked_pair.ensures)

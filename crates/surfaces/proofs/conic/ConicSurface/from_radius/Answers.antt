@@ -1,4 +1,4 @@
--- By the tests and the calls, in order. Assumes nothing.
+-- Drafted (tools/draft): opens Conic.from_radius_answer. By the tests and the calls, in order. Assumes nothing.
 use lib.Ieee.{of_bits}
 use Rattle.numbers.specs.Arithmetic.{decimal}
 use Rattle.surfaces.specs.Conic.{from_radius_answer}
@@ -6,8 +6,7 @@ use Rattle.surfaces.proofs.conic.ConicSurface.from_radius.Goals as goal
 
 pub returns-then-is_nan : goal.returns-then-is_nan
 unfolding from_radius_answer decimal of_bits
-returns-then-is_nan c =
-    rw (← c.is_nan.ensures, ← c.is_nan-2.ensures, ← c.is_nan-3.ensures, c.if-is_nan.true)
+returns-then-is_nan c = rw (← c.is_nan.ensures, ← c.is_nan-2.ensures, ← c.is_nan-3.ensures, c.if-is_nan.true)
 
 pub returns-then-semi : goal.returns-then-semi
 unfolding from_radius_answer decimal of_bits

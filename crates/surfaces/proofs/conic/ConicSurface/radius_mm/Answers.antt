@@ -1,4 +1,4 @@
--- By the tests and the calls, in order. Assumes nothing.
+-- Drafted (tools/draft): opens nothing. By the tests and the calls, in order. Assumes nothing.
 use Rattle.surfaces.proofs.conic.ConicSurface.radius_mm.Goals as goal
 
 pub returns : goal.returns

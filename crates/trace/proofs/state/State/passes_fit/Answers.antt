@@ -1,4 +1,4 @@
--- By the tests and the calls, in order. Assumes nothing.
+-- Drafted (tools/draft): opens State.passes_fit. By the tests and the calls, in order. Assumes nothing.
 use borrow.Author.Tests.{eq-eqb, ne_eqb}
 use Rattle.trace.specs.State.{passes_fit}
 use Rattle.trace.proofs.state.State.passes_fit.Goals as goal

@@ -1,4 +1,4 @@
--- By the tests and the calls, in order. Assumes nothing.
+-- Drafted (tools/draft): opens State.place_fits. By the tests and the calls, in order. Assumes nothing.
 use borrow.Author.Tests.{eq-eqb, ne_eqb}
 use Rattle.trace.specs.State.{place_fits}
 use Rattle.trace.proofs.state.State.place_fits.Goals as goal

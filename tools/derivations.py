@@ -182,5 +182,6 @@ def generated(crate, functions, folder, top=TOP):
     except FileNotFoundError:
         raise Ungenerated("there is no rt on the path") from None
     if not re.search(r"^generated=", done.stdout, re.M):
-        raise Ungenerated(f"{crate}: nothing was generated; are the crates below it proved? {done.stdout.strip()[-500:]}")
+        said = done.stdout.strip()[-500:]
+        raise Ungenerated(f"{crate}: nothing was generated; are the crates below it proved? {said}")
     return folder / f"Rattle-{crate}-proofs"

@@ -285,7 +285,8 @@ class Drafts(unittest.TestCase):
                 draft(goals=re.sub(r"^returns\S*", goal, GOALS, flags=re.M))
 
     def test_width(self):
-        wide = draft(lts=LTS.replace("pub sag_of :", "pub sag_of-a_surface_whose_name_is_as_long_as_names_can_be_in_a_proof :"))
+        long = "sag_of-a_surface_whose_name_is_as_long_as_names_can_be_in_a_proof"
+        wide = draft(lts=LTS.replace("pub sag_of :", f"pub {long} :"))
         self.assertLessEqual(max(map(len, wide.splitlines())), WIDTH)
         self.assertIn("    rw (\n      ← c.sag_of-a_", wide)
         self.assertIn("returns-then-z c =\n    rw (← c.sag_of-a_", wide)

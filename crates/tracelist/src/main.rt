@@ -1,7 +1,7 @@
 // Lists what a trace leaves. The file on standard input has the ray and its starting index, and then the recipe. Each
 // record that was written is told by a line: number, status, steps and slots 1 to 11. The last line has `end`, the
 // outcome, all steps and the path. A file that is refused is told by `refused`, the number and the place. Where reading
-// or writing fails, a word on standard error says which: a program has no exit status of its own.
+// or writing fails, a word on standard error says which, and the exit status is 0 all the same.
 #![tactic(auto)]
 
 ghost use Rattle.std.specs.Prelude.{◌≤◌, length};

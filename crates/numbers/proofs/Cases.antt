@@ -1,5 +1,4 @@
--- Imported here, the known values are checked before most laws, so that a wrong rule is refused by a case first.
--- Assumes nothing.
+-- Every rule has its known values. Assumes nothing.
 use Rattle.numbers.specs.Arithmetic.{decimal}
 use Rattle.numbers.specs.Basic.{clamped, infinite, larger, magnitude, negative}
 use Rattle.numbers.specs.Known.{knowns, rows, rules}

@@ -1,6 +1,5 @@
--- A recipe's end, both sides of it, checked before most laws, so that a wrong rule is refused by a case first. A record
--- has 4 bytes and whole numbers, so that these are 65,536 bytes, as of 380 odd aspheres and 4 conics, and 65,540, as of
--- 380 odd aspheres and 3 biconics. Assumes nothing.
+-- A recipe's end, both sides of it. A record has 4 bytes and whole numbers, so that these are 65,536 bytes, as of 380
+-- odd aspheres and 4 conics, and 65,540, as of 380 odd aspheres and 3 biconics. Assumes nothing.
 use Rattle.std.specs.Prelude.{ℕ, ◌≡◌, List}
 use Rattle.std.proofs.Math.Bool.{and-true, and-false}
 use Rattle.recipe.specs.Record.{end_at, formed_at, shaped_at, bad, record_at}

@@ -1,4 +1,4 @@
--- Imported here, the worked cases are checked before most laws, and refuse a wrong rule first. Assumes nothing.
+-- The rules leave in the arrays what was worked out by hand, in every case. Assumes nothing.
 use Rattle.numbers.specs.Arithmetic.{decimal}
 use Rattle.numbers.specs.Basic.{clamped, infinite, larger, magnitude, negative}
 use Rattle.numbers.specs.Root.{root}

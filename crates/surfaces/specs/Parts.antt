@@ -26,7 +26,7 @@ use Rattle.surfaces.specs.declared.conic.Root.{Root}
 use Rattle.surfaces.specs.declared.conic.Root.TheVariants as candidate
 use Rattle.surfaces.specs.declared.conic.Quadratic.{Quadratic as Computed}
 use Rattle.surfaces.specs.declared.sags.EdgeRoot.{EdgeRoot}
-use Rattle.surfaces.specs.declared.sags.EdgeRoot.TheVariants as edge_root
+use Rattle.surfaces.specs.declared.sags.EdgeRoot.TheVariants as edge
 use Rattle.surfaces.specs.declared.sags.Depth.{Depth}
 use Rattle.surfaces.specs.declared.sags.Depth.TheVariants as depth
 use Rattle.surfaces.specs.declared.newton.Profile.{Profile}
@@ -65,8 +65,8 @@ told_quadratic e = record { a = e.a; b = e.b; c = e.c }
 
 -- sags: a root, and the conic base of an asphere from its root, which is 1 where the base is flat
 abbrev pub told_edge_root : EdgeRoot → Told Float
-told_edge_root (edge_root.Given s) = gives s
-told_edge_root edge_root.Outside = no_number 5
+told_edge_root (edge.Given s) = gives s
+told_edge_root edge.Outside = no_number 5
 
 unfoldable pub base_root : Float → Float → Float → Told Float
 base_root c k r2 =

@@ -1,5 +1,4 @@
--- Imported here, the worked cases are checked before most laws, so that a wrong rule is refused by a case first.
--- Assumes nothing.
+-- The rules answer as worked out by hand, in every case. Assumes nothing.
 use Rattle.numbers.specs.Arithmetic.{decimal}
 use Rattle.numbers.specs.Basic.{clamped, infinite, larger, magnitude, negative}
 use Rattle.numbers.specs.Root.{root}

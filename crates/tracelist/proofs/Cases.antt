@@ -1,4 +1,4 @@
--- The worked files are checked first, and refuse a wrong rule first. Assumes nothing.
+-- The rules print of the worked files what was worked out by hand. Assumes nothing.
 use Rattle.lines.specs.Output.{decimal_text, glyph, hex_text}
 use Rattle.numbers.specs.Arithmetic.{decimal}
 use Rattle.numbers.specs.Basic.{clamped, infinite, larger, magnitude, negative}

@@ -6,7 +6,7 @@ use lib.Ieee.{Float, nan, inf, fin, is_nan, lt}
 use Rattle.numbers.specs.Basic.{larger, negative}
 use Rattle.numbers.proofs.Floats.{Signed, signed}
 use Rattle.numbers.proofs.basic.max.Goals as goal
-use Rattle.numbers.proofs.basic.max.Goals.{Else-is_nan, Else-is_nan-2, Start}
+use Rattle.numbers.proofs.basic.max.Goals.{Else-is_nan, Else-is_nan-2}
 
 ordered : (x y : Float) → lt x y ≡ true → (is_nan x ≡ false) × (is_nan y ≡ false)
 unfolding lt is_nan
@@ -27,55 +27,51 @@ plus : (s : Bool) (b d : ℕ) → b ≡ cond s (2 ^ 63) 0 + d → d < 2 ^ 63 →
 plus true b d e l h = absurd (h (omega arith))
 plus false b d e l h = refl
 
--- the function's start, from where x is seen to be no NaN
-abbrev start : Else-is_nan → Start
-start c = c.before.before.before.before
+first : (c : Else-is_nan) → is_nan c.args.x ≡ false
+first c = sym c.is_nan.ensures ∙ c.if-is_nan.false
 
-first : (c : Else-is_nan) → is_nan (start c).args.x ≡ false
-first c = sym c.before.is_nan.ensures ∙ c.if-is_nan.false
+second : (c : Else-is_nan-2) → is_nan c.args.y ≡ false
+second c = sym c.is_nan-2.ensures ∙ c.if-is_nan-2.false
 
-second : (c : Else-is_nan-2) → is_nan (start c.before.before).args.y ≡ false
-second c = sym c.before.is_nan-2.ensures ∙ c.if-is_nan-2.false
-
-number : (c : Else-is_nan) → T (not (is_nan (start c).args.x))
+number : (c : Else-is_nan) → T (not (is_nan c.args.x))
 number c = rw (first c) tt
 
-sign : (c : Else-is_nan) → Signed (start c).args.x
-sign c = signed (start c).args.x (passes _ (start c).well_formed.0.1) (number c)
+sign : (c : Else-is_nan) → Signed c.args.x
+sign c = signed c.args.x (passes _ c.well_formed.0.1) (number c)
 
 pub returns-then-x-y : goal.returns-then-x-y
 unfolding larger
-returns-then-x-y c = let o = ordered c.before.args.x c.before.args.y c.if-x-y.true in rw (o.0, o.1, c.if-x-y.true)
+returns-then-x-y c = let o = ordered c.args.x c.args.y c.if-x-y.true in rw (o.0, o.1, c.if-x-y.true)
 
 pub returns-then-y-x : goal.returns-then-y-x
 unfolding larger
 returns-then-y-x c =
-    let o = ordered c.before.before.args.y c.before.before.args.x c.if-y-x.true in
-    rw (o.1, o.0, c.before.if-x-y.false, c.if-y-x.true)
+    let o = ordered c.args.y c.args.x c.if-y-x.true in
+    rw (o.1, o.0, c.if-x-y.false, c.if-y-x.true)
 
 pub returns-then-is_nan : goal.returns-then-is_nan
 unfolding larger
-returns-then-is_nan c = rw (sym c.before.is_nan.ensures ∙ c.if-is_nan.true)
+returns-then-is_nan c = rw (sym c.is_nan.ensures ∙ c.if-is_nan.true)
 
 pub returns-then-is_nan-2 : goal.returns-then-is_nan-2
 unfolding larger
-returns-then-is_nan-2 c = rw (first c.before.before, sym c.before.is_nan-2.ensures ∙ c.if-is_nan-2.true)
+returns-then-is_nan-2 c = rw (first (goal.at.returns-then-is_nan-2 c).Else-is_nan, sym c.is_nan-2.ensures ∙ c.if-is_nan-2.true)
 
 pub float_to_bits-x : goal.float_to_bits-x
-float_to_bits-x c = number c.before.before
+float_to_bits-x c = number (goal.at.float_to_bits-x c).Else-is_nan
 
 pub returns-then-x-eq1 : goal.returns-then-x-eq1
 unfolding larger
 returns-then-x-eq1 c =
-    let d = c.before.before.before in
-    let s = sign d in
-    let n : negative (start d).args.x ≡ true = minus _ _ _ s.whole s.digits c.if-x-eq1.true in
-    rw (first d, second c.before, d.before.before.before.if-x-y.false, d.before.before.if-y-x.false, n)
+    let at = goal.at.returns-then-x-eq1 c in
+    let s = sign at.Else-is_nan in
+    let n : negative c.args.x ≡ true = minus _ _ _ s.whole s.digits c.if-x-eq1.true in
+    rw (first at.Else-is_nan, second at.Else-is_nan-2, c.if-x-y.false, c.if-y-x.false, n)
 
 pub returns-else-x-eq1 : goal.returns-else-x-eq1
 unfolding larger
 returns-else-x-eq1 c =
-    let d = c.before.before.before in
-    let s = sign d in
-    let n : negative (start d).args.x ≡ false = plus _ _ _ s.whole s.digits c.if-x-eq1.false in
-    rw (first d, second c.before, d.before.before.before.if-x-y.false, d.before.before.if-y-x.false, n)
+    let at = goal.at.returns-else-x-eq1 c in
+    let s = sign at.Else-is_nan in
+    let n : negative c.args.x ≡ false = plus _ _ _ s.whole s.digits c.if-x-eq1.false in
+    rw (first at.Else-is_nan, second at.Else-is_nan-2, c.if-x-y.false, c.if-y-x.false, n)

@@ -70,11 +70,11 @@ up n r rest e l g = omega arith
 
 -- what the loop leaves
 ended : (c : After-loop-r) →
-    let l = c.before.loop-r in
-    l.r * l.r + l.rest ≡ c.before.before.args.m * 2 ^ 42
+    let l = c.loop-r in
+    l.r * l.r + l.rest ≡ c.args.m * 2 ^ 42
 ended c =
-    let l = c.before.loop-r in
-    emptied c.before.before.args.m l.a l.r l.rest l.invariant.0 l.invariant.1 (omega arith) (omega arith)
+    let l = c.loop-r in
+    emptied c.args.m l.a l.r l.rest l.invariant.0 l.invariant.1 (omega arith) (omega arith)
     (omega arith)
 
 pub loop-r-init : goal.loop-r-init
@@ -109,19 +109,19 @@ loop-r-smaller-then-r-rest c = omega arith
 
 pub loop-r-preserved-then-r-rest : goal.loop-r-preserved-then-r-rest
 loop-r-preserved-then-r-rest c =
-    let t = c.before.before.loop-r.invariant.0 in
+    let t = c.loop-r.invariant.0 in
     (suc t, rw (pow-succ' 2 t) (omega arith))
 
 pub loop-r-smaller : goal.loop-r-smaller
 loop-r-smaller c =
-    let m = c.before.before.before.args.m in
-    let l = c.before.before.loop-r in
+    let m = c.args.m in
+    let l = c.loop-r in
     let p = le-mul_of_pos_right m (squared l.invariant.0) in
     omega (arith, grows m l.a l.r l.rest _ l.invariant.1.value (omega arith) (omega arith) (omega arith))
 
 pub loop-r-preserved : goal.loop-r-preserved
 loop-r-preserved c =
-    let t = c.before.before.loop-r.invariant.0 in
+    let t = c.loop-r.invariant.0 in
     (suc t, rw (pow-succ' 2 t) (omega arith))
 
 pub overflow_add-result : goal.overflow_add-result
@@ -129,8 +129,8 @@ overflow_add-result c = omega arith
 
 pub returns-then-r-rest-2 : goal.returns-then-r-rest-2
 returns-then-r-rest-2 c =
-    let l = c.before.before.loop-r in
-    up (c.before.before.before.args.m * 2 ^ 42) l.r l.rest (ended c.before) (omega arith) (omega arith)
+    let l = c.loop-r in
+    up (c.args.m * 2 ^ 42) l.r l.rest (ended (goal.at.returns-then-r-rest-2 c).After-loop-r) (omega arith) (omega arith)
 
 pub returns-else-r-rest-2 : goal.returns-else-r-rest-2
-returns-else-r-rest-2 c = omega (arith, ended c.before)
+returns-else-r-rest-2 c = omega (arith, ended (goal.at.returns-else-r-rest-2 c).After-loop-r)

@@ -1,6 +1,6 @@
 -- `numbers::root::excess` meets its contract: what wraps is a multiple of 2 ^ 64. Assumes nothing.
 use Rattle.std.proofs.Common.{◌≡◌, ℕ, ◌+◌, ◌*◌, ◌/◌, ◌%◌, ◌^◌, arith}
-use Rattle.numbers.proofs.Excess.{Squared, squared}
+use Rattle.numbers.proofs.Excess.{squared}
 use Rattle.numbers.proofs.root.excess.Goals as goal
 
 -- multiples of 2 ^ 64 wrap to nothing
@@ -29,26 +29,21 @@ wrapped m g s p l d t o r a b c e =
     (unwrapped m g s p l d x y t o r i j k n₁ n₂ n₃ (omega arith) (omega arith) (omega arith) (omega arith)
     (omega arith) (omega arith))
 
-of : (c : goal.Start) → Squared c.args.g
-of c = squared c.args.g (omega arith)
-
 pub overflow_mul-a : goal.overflow_mul-a
-overflow_mul-a c = omega (arith, of c)
+overflow_mul-a c = omega (arith, squared c.args.g (omega arith))
 
 pub overflow_mul-a-2 : goal.overflow_mul-a-2
-overflow_mul-a-2 c = omega (arith, of c.before)
+overflow_mul-a-2 c = omega (arith, squared c.args.g (omega arith))
 
 pub overflow_mul-c : goal.overflow_mul-c
-overflow_mul-c c = omega (arith, of c.before)
+overflow_mul-c c = omega (arith, squared c.args.g (omega arith))
 
 pub returns : goal.returns
 returns c =
-    let d = c.before.before.before in
-    let start = d.before in
-    let g = start.args.g in
+    let g = c.args.g in
     let a = g / 2 ^ 21 in
     let b = g % 2 ^ 21 in
-    rw (of start).whole
-    (wrapped start.args.m g (a * a) (a * b) (b * b) d.wrapping_sub_u64-d.result _ _ _
-    d.wrapping_sub_u64-d.ensures.value c.before.before.wrapping_add_u64-square.ensures.value
-    c.before.wrapping_add_u64.ensures.value c.wrapping_sub_u64.ensures.value)
+    rw (squared g (omega arith)).whole
+    (wrapped c.args.m g (a * a) (a * b) (b * b) c.wrapping_sub_u64-d.result _ _ _
+    c.wrapping_sub_u64-d.ensures.value c.wrapping_add_u64-square.ensures.value
+    c.wrapping_add_u64.ensures.value c.wrapping_sub_u64.ensures.value)

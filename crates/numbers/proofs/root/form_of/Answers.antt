@@ -20,12 +20,12 @@ formed b d p x up f h e g l t =
     let k : (x + 2) / 2 + 510 - up ≡ p / 2 + 485 = omega arith in
     (omega (arith, h), omega (arith, h), t, rw (i, q, parity p x up e, y, k) (scale h).place)
 
-up : (c : goal.Then-b-lt-FIELD) → Moved c.before.before.args.b (count_leading_zeros 64 c.before.before.args.b)
-up c = moved c.before.before.args.b (omega arith) (omega arith)
+up : (c : goal.Then-b-lt-FIELD) → Moved c.args.b (count_leading_zeros 64 c.args.b)
+up c = moved c.args.b (omega arith) (omega arith)
 
 pub returns-then-b-ge-LEAST : goal.returns-then-b-ge-LEAST
 returns-then-b-ge-LEAST c =
-    let b = c.before.args.b in
+    let b = c.args.b in
     let e = b / 2 ^ 52 - 1 in
     formed b (b - e * 2 ^ 52) (e + 52) e 0 b (normal_digits b e (omega arith) (omega arith)) (omega arith) (omega arith)
     (omega arith) (omega arith)
@@ -47,7 +47,7 @@ overflow_add-result c = let u = up c in rw u.kept (omega (arith, u, u.digits))
 
 pub returns-then-b-lt-FIELD : goal.returns-then-b-lt-FIELD
 returns-then-b-lt-FIELD c =
-    let b = c.before.before.args.b in
+    let b = c.args.b in
     let u = up c in
     let i = count_leading_zeros 64 b - 11 in
     rw u.kept
@@ -55,7 +55,7 @@ returns-then-b-lt-FIELD c =
 
 pub returns : goal.returns
 returns c =
-    let b = c.before.before.args.b in
+    let b = c.args.b in
     let e = b / 2 ^ 52 - 1 in
     formed b (b - e * 2 ^ 52) (e + 52) (e + 512) 256 _ (normal_digits b e (omega arith) (omega arith)) (omega arith)
     (omega arith) (omega arith) (omega arith)

@@ -6,14 +6,13 @@ use denote.Floats.{passes}
 use lib.Ieee.{binary64, of_bits, to_bits, nan_bits}
 use lib.Ieee.Bits.{of_bits-to_bits}
 use Rattle.numbers.specs.Root.{root_units}
-use Rattle.numbers.specs.Parts.{Near, Close, radicand, exponent, form_radicand}
+use Rattle.numbers.specs.Parts.{Near, radicand, exponent, form_radicand}
 use Rattle.numbers.proofs.Excess.{close_above, close_below}
 use Rattle.numbers.proofs.Roots.{short}
 use Rattle.numbers.proofs.Signs.{positive, no_nan}
 use Rattle.numbers.proofs.Scale.{Scale, normal_scale, root_bits, no_nan_bits}
 use Rattle.numbers.proofs.root.root_of.Goals as goal
-use Rattle.numbers.proofs.root.root_of.Goals.{After-wrapping_sub_u64-change, Start, Then-is_close}
-use Rattle.numbers.proofs.root.root_of.Goals.{Then-wrapping_sub_u64-ge-BELOW_ZERO}
+use Rattle.numbers.proofs.root.root_of.Goals.{After-wrapping_sub_u64-change}
 
 -- twice x, or x itself
 doubled : (x p q : ℕ) → p + q ≡ 1 → x * 2 ^ (11 - p) ≡ x * (q + 1) * 1024
@@ -25,33 +24,32 @@ doubled x (suc (suc p)) q e = omega arith
 next : (x : ℕ) → 0 < x → x % 2 + (x - 1) % 2 ≡ 1
 next x h = omega arith
 
-of : (c : Start) → let b = c.args.b in Scale b (radicand b) ((b / 2 ^ 52 - 1) / 2 + 511)
-of c = normal_scale c.args.b (c.args.b / 2 ^ 52 - 1) (omega arith) (omega arith)
-
 -- the digits as the code finds them
 abbrev digits : ℕ → ℕ
 digits b = (b % 2 ^ 52 + 2 ^ 52) * 2 ^ (11 - b / 2 ^ 52 % 2) % 2 ^ 64
 
-found : (c : Start) → digits c.args.b ≡ radicand c.args.b * 1024
-found c =
-    let b = c.args.b in
-    let x = b % 2 ^ 52 + 2 ^ 52 in
-    let d : b - (b / 2 ^ 52 - 1) * 2 ^ 52 ≡ x = omega arith in
-    let e = doubled x (b / 2 ^ 52 % 2) ((b / 2 ^ 52 - 1) % 2) (next (b / 2 ^ 52) (omega arith)) in
-    let s = rw d at (of c) in
-    rw (d, e) (mod-eq_of_lt (omega (arith, s)))
+module _ {b up : ℕ} (form : (2 ^ 52 ≤ b) × (b < 0x7ff0_0000_0000_0000) × (up ≤ 256)) where
+  of : Scale b (radicand b) ((b / 2 ^ 52 - 1) / 2 + 511)
+  of = normal_scale b (b / 2 ^ 52 - 1) (omega arith) (omega arith)
 
-near : (c : Start) (p : ℕ) → Near (digits c.args.b * 2 ^ 42) p → Near (radicand c.args.b * 2 ^ 52) p
-near c p h = let n = rw (found c) at h in omega (arith, n)
+  found : digits b ≡ radicand b * 1024
+  found =
+      let x = b % 2 ^ 52 + 2 ^ 52 in
+      let d : b - (b / 2 ^ 52 - 1) * 2 ^ 52 ≡ x = omega arith in
+      let e = doubled x (b / 2 ^ 52 % 2) ((b / 2 ^ 52 - 1) % 2) (next (b / 2 ^ 52) (omega arith)) in
+      let s = rw d at of in
+      rw (d, e) (mod-eq_of_lt (omega (arith, s)))
 
--- what the pattern v is, from the whole number p that is nearest
-module _ (c : Start) (p v : ℕ) (h : Near (digits c.args.b * 2 ^ 42) p)
-    (e : v ≡ (exponent c.args.b - c.args.up) * 2 ^ 52 + p) where
-  answers : (n : ℕ) → n * 2 ^ 1074 ≡ form_radicand c.args.b c.args.up → of_bits binary64 v ≡ root_units n
-  answers n w = let s = of c in rw e (root_bits _ _ p s.low s.high (omega arith) (near c p h) n w)
+  near : (p : ℕ) → Near (digits b * 2 ^ 42) p → Near (radicand b * 2 ^ 52) p
+  near p h = let n = rw found at h in omega (arith, n)
 
-  is_number : T (not (nan_bits binary64 v))
-  is_number = let s = of c in rw e (no_nan_bits _ _ p s.low s.high (omega arith) (near c p h))
+  -- what the pattern v is, from the whole number p that is nearest
+  module _ (p v : ℕ) (h : Near (digits b * 2 ^ 42) p) (e : v ≡ (exponent b - up) * 2 ^ 52 + p) where
+    answers : (n : ℕ) → n * 2 ^ 1074 ≡ form_radicand b up → of_bits binary64 v ≡ root_units n
+    answers n w = let s = of in rw e (root_bits _ _ p s.low s.high (omega arith) (near p h) n w)
+
+    is_number : T (not (nan_bits binary64 v))
+    is_number = let s = of in rw e (no_nan_bits _ _ p s.low s.high (omega arith) (near p h))
 
 whole : (w q k : ℕ) → (q + k * 2 ^ 52) % 2 ^ 64 ≡ w → q < 2 ^ 53 → k < 2046 → w ≡ k * 2 ^ 52 + q
 whole w q k e h l = omega arith
@@ -72,63 +70,43 @@ joined w q k up n d a b l h s t m o =
 unchanged : (w q d x : ℕ) → q % 2 ^ 64 ≡ w → d ≡ 0 → (w + d) % 2 ^ 64 ≡ x → w ≡ x
 unchanged w q d x e z h = omega arith
 
--- where the guess is seen to be close, from where it is seen to be at most one above the nearest, and the start
-abbrev seen : Then-wrapping_sub_u64-ge-BELOW_ZERO → Then-is_close
-seen c = c.before.before.before
-
-abbrev start : Then-wrapping_sub_u64-ge-BELOW_ZERO → Start
-start c = (seen c).before.before.before.before
-
-abbrev guessed : Then-wrapping_sub_u64-ge-BELOW_ZERO → ℕ
-guessed c = (seen c).before.before.wrapping_sub_u64-q.result
-
-close : (c : Then-is_close) →
-    Close (digits c.before.before.before.before.args.b) c.before.before.wrapping_sub_u64-q.result
-close c = c.before.is_close.ensures c.if-is_close.true
-
--- where the change of the guess is known; what is nearest, and what the guess is changed to
+-- what is nearest, and what the guess is changed to
 abbrev nearest : After-wrapping_sub_u64-change → ℕ
-nearest c = guessed c.before.before - 1 + c.before.steps_up-n.result
+nearest c = c.wrapping_sub_u64-q.result - 1 + c.steps_up-n.result
 
-nearest_is : (c : After-wrapping_sub_u64-change) → Near (digits (start c.before.before).args.b * 2 ^ 42) (nearest c)
-nearest_is c = c.before.steps_up-n.ensures
-
-changes : (c : After-wrapping_sub_u64-change) →
-    let s = start c.before.before in
-    (to_bits binary64 s.args.g + c.wrapping_sub_u64-change.result) % 2 ^ 64
-    ≡ (exponent s.args.b - s.args.up) * 2 ^ 52 + nearest c
+changes : (c : After-wrapping_sub_u64-change) → let a = c.args in
+    (to_bits binary64 a.g + c.wrapping_sub_u64-change.result) % 2 ^ 64
+    ≡ (exponent a.b - a.up) * 2 ^ 52 + nearest c
 changes c =
-    let s = start c.before.before in
-    let k = seen c.before.before in
-    let h = close k in
-    let r = of s in
-    let l = short _ _ (near s (nearest c) (nearest_is c)) r.low r.high in
-    joined _ _ (exponent s.args.b) s.args.up _ _ k.before.before.wrapping_sub_u64-q.ensures.value
+    let h = c.is_close.ensures c.if-is_close.true in
+    let r = of c.requires in
+    let l = short _ _ (near c.requires (nearest c) c.steps_up-n.ensures) r.low r.high in
+    joined _ _ (exponent c.args.b) c.args.up _ _ c.wrapping_sub_u64-q.ensures.value
     c.wrapping_sub_u64-change.ensures.value h.0 h.1 l (omega arith) (omega arith) (omega arith)
 
 pub float_to_bits-w : goal.float_to_bits-w
-float_to_bits-w c = no_nan (positive c.before.args.g c.if-g.true)
+float_to_bits-w c = no_nan (positive c.args.g c.if-g.true)
 
 pub is_close-requires : goal.is_close-requires
-is_close-requires c = let s = c.before.before in rw (found s) (omega (arith, of s))
+is_close-requires c = rw (found c.requires) (omega (arith, of c.requires))
 
 pub excess-over-requires : goal.excess-over-requires
-excess-over-requires c = (close c).1
+excess-over-requires c = (c.is_close.ensures c.if-is_close.true).1
 
 pub overflow_mul-q : goal.overflow_mul-q
-overflow_mul-q c = omega (arith, close c.before)
+overflow_mul-q c = omega (arith, c.is_close.ensures c.if-is_close.true)
 
 pub overflow_sub-q : goal.overflow_sub-q
-overflow_sub-q c = omega (arith, close c.before)
+overflow_sub-q c = omega (arith, c.is_close.ensures c.if-is_close.true)
 
 pub overflow_sub-q-then-wrapping_sub_u64-ge-BELOW_ZERO : goal.overflow_sub-q-then-wrapping_sub_u64-ge-BELOW_ZERO
-overflow_sub-q-then-wrapping_sub_u64-ge-BELOW_ZERO c = omega (arith, close (seen c))
+overflow_sub-q-then-wrapping_sub_u64-ge-BELOW_ZERO c = omega (arith, c.is_close.ensures c.if-is_close.true)
 
 pub steps_up-n-requires : goal.steps_up-n-requires
 steps_up-n-requires c =
-    let h = close (seen c) in
-    let o = c.before.before.excess-over in
-    let v = c.before.wrapping_sub_u64 in (
+    let h = c.is_close.ensures c.if-is_close.true in
+    let o = c.excess-over in
+    let v = c.wrapping_sub_u64 in (
       omega (arith, h),
       omega (arith, h),
       close_above _ _ _ h (omega (arith, o)) o.ensures,
@@ -137,34 +115,32 @@ steps_up-n-requires c =
 
 pub returns-then-change-eq0 : goal.returns-then-change-eq0
 returns-then-change-eq0 c n e =
-    let k = c.before in
-    let s = start k.before.before in
-    let g = s.args.g in
-    let w = (seen k.before.before).before.before.wrapping_sub_u64-q.ensures.value in
-    let t = unchanged (to_bits binary64 g) _ _ _ w c.if-change-eq0.true (changes k) in
-    sym (of_bits-to_bits binary64 g (passes _ s.well_formed.0.1)) ∙ answers s (nearest k) _ (nearest_is k) t n e
+    let k = (goal.at.returns-then-change-eq0 c).After-wrapping_sub_u64-change in
+    let g = c.args.g in
+    let t = unchanged (to_bits binary64 g) _ _ _ c.wrapping_sub_u64-q.ensures.value c.if-change-eq0.true (changes k) in
+    sym (of_bits-to_bits binary64 g (passes _ c.well_formed.0.1))
+    ∙ answers c.requires (nearest k) _ c.steps_up-n.ensures t n e
 
 pub float_from_bits-result : goal.float_from_bits-result
 float_from_bits-result c =
-    let k = c.before.before in
-    is_number (start k.before.before) (nearest k) _ (nearest_is k) (c.wrapping_add_u64.ensures.value ∙ changes k)
+    let k = (goal.at.float_from_bits-result c).After-wrapping_sub_u64-change in
+    is_number c.requires (nearest k) _ c.steps_up-n.ensures (c.wrapping_add_u64.ensures.value ∙ changes k)
 
 pub returns-then-wrapping_sub_u64-ge-BELOW_ZERO : goal.returns-then-wrapping_sub_u64-ge-BELOW_ZERO
 returns-then-wrapping_sub_u64-ge-BELOW_ZERO c =
-    let k = c.before.before in
-    answers (start k.before.before) (nearest k) _ (nearest_is k) (c.wrapping_add_u64.ensures.value ∙ changes k)
+    let k = (goal.at.returns-then-wrapping_sub_u64-ge-BELOW_ZERO c).After-wrapping_sub_u64-change in
+    answers c.requires (nearest k) _ c.steps_up-n.ensures (c.wrapping_add_u64.ensures.value ∙ changes k)
 
 pub digit_by_digit-requires : goal.digit_by_digit-requires
-digit_by_digit-requires c = let s = c.before in rw (found s) (omega (arith, of s))
+digit_by_digit-requires c = rw (found c.requires) (omega (arith, of c.requires))
 
 pub overflow_add-result : goal.overflow_add-result
 overflow_add-result c =
-    let s = c.before.before in
-    let r = of s in
-    omega (arith, short _ _ (near s _ c.digit_by_digit.ensures) r.low r.high)
+    let r = of c.requires in
+    omega (arith, short _ _ (near c.requires _ c.digit_by_digit.ensures) r.low r.high)
 
 pub float_from_bits-result-2 : goal.float_from_bits-result-2
-float_from_bits-result-2 c = is_number c.before.before _ _ c.digit_by_digit.ensures refl
+float_from_bits-result-2 c = is_number c.requires _ _ c.digit_by_digit.ensures refl
 
 pub returns : goal.returns
-returns c = answers c.before.before _ _ c.digit_by_digit.ensures refl
+returns c = answers c.requires _ _ c.digit_by_digit.ensures refl

@@ -11,7 +11,7 @@ use Rattle.numbers.specs.Parts.{pattern_units}
 use Rattle.numbers.proofs.Signs.{Positive, infinity, plus, positive, no_nan}
 use Rattle.numbers.proofs.Values.{units_pattern, bits_lt, bits_pos}
 use Rattle.numbers.proofs.root.sqrt.Goals as goal
-use Rattle.numbers.proofs.root.sqrt.Goals.{Start, Then-b-lt-INFINITY, Then-x}
+use Rattle.numbers.proofs.root.sqrt.Goals.{Then-x}
 
 of_zero : (x : Float) → eq x (of_bits binary64 0) ≡ true → x ≡ root x
 unfolding eq of_bits root
@@ -56,57 +56,54 @@ unfolding to_bits
 range infinity h = omega arith
 range (plus m e) h = (bits_pos m e h, omega (arith, bits_lt m e h))
 
--- where x is seen to be above zero, from where it is seen to be finite
-abbrev above_zero : Then-b-lt-INFINITY → Then-x
-above_zero c = c.before.before.before
-
 -- what owning an `f64` tells: the format holds it
-held : (c : Start) → T (fits binary64 c.args.x)
+held : (c : Then-x) → T (fits binary64 c.args.x)
 held c = passes _ c.well_formed.0.1
 
-above : (c : Then-x) → Positive c.before.args.x
-above c = positive c.before.args.x c.if-x.true
+above : (c : Then-x) → Positive c.args.x
+above c = positive c.args.x c.if-x.true
 
 within : (c : Then-x) →
-    let b = to_bits binary64 c.before.args.x in (0 < b) × (b ≤ 0x7ff0_0000_0000_0000)
-within c = range (above c) (held c.before)
+    let b = to_bits binary64 c.args.x in (0 < b) × (b ≤ 0x7ff0_0000_0000_0000)
+within c = range (above c) (held c)
 
 finite : (c : Then-x) →
-    let x = c.before.args.x in
+    let x = c.args.x in
     to_bits binary64 x < 0x7ff0_0000_0000_0000 → root_units (pattern_units (to_bits binary64 x)) ≡ root x
-finite c = of_finite (above c) (held c.before)
+finite c = of_finite (above c) (held c)
 
 pub float_to_bits-b : goal.float_to_bits-b
-float_to_bits-b c = no_nan (above c)
+float_to_bits-b c = no_nan (above (goal.at.float_to_bits-b c).Then-x)
 
 pub returns-then-wrapping_sub_u64-lt268435456 : goal.returns-then-wrapping_sub_u64-lt268435456
-returns-then-wrapping_sub_u64-lt268435456 c = c.near_one.ensures ∙ finite c.before.before.before (omega arith)
+returns-then-wrapping_sub_u64-lt268435456 c =
+    c.near_one.ensures ∙ finite (goal.at.returns-then-wrapping_sub_u64-lt268435456 c).Then-x (omega arith)
 
 pub form_of-f-requires : goal.form_of-f-requires
-form_of-f-requires c = omega (arith, within (above_zero c))
+form_of-f-requires c = omega (arith, within (goal.at.form_of-f-requires c).Then-x)
 
 pub float_of-requires : goal.float_of-requires
 float_of-requires c = c.form_of-f.ensures.1
 
 pub start-requires : goal.start-requires
-start-requires c = c.before.form_of-f.ensures.1
+start-requires c = c.form_of-f.ensures.1
 
 pub root_of-requires : goal.root_of-requires
-root_of-requires c = let f = c.before.before.before.form_of-f.ensures in (f.0, f.1, f.2)
+root_of-requires c = let f = c.form_of-f.ensures in (f.0, f.1, f.2)
 
 pub returns-then-b-lt-INFINITY : goal.returns-then-b-lt-INFINITY
 returns-then-b-lt-INFINITY c =
-    let f = c.before.before.before.before in
-    let b = to_bits binary64 (above_zero f.before).before.args.x in
-    c.root_of.ensures (pattern_units b) f.form_of-f.ensures.3 ∙ finite (above_zero f.before) (omega arith)
+    let b = to_bits binary64 c.args.x in
+    c.root_of.ensures (pattern_units b) c.form_of-f.ensures.3
+    ∙ finite (goal.at.returns-then-b-lt-INFINITY c).Then-x (omega arith)
 
 pub returns-then-x : goal.returns-then-x
 returns-then-x c =
-    let p = c.before.before.before in
-    of_infinite (above p) (held p.before) (omega arith)
+    let p = (goal.at.returns-then-x c).Then-x in
+    of_infinite (above p) (held p) (omega arith)
 
 pub returns-then-x-2 : goal.returns-then-x-2
-returns-then-x-2 c = of_zero c.before.before.args.x c.if-x-2.true
+returns-then-x-2 c = of_zero c.args.x c.if-x-2.true
 
 pub returns : goal.returns
-returns c = of_other c.before.before.args.x c.before.if-x.false c.if-x-2.false
+returns c = of_other c.args.x c.if-x.false c.if-x-2.false

@@ -31,14 +31,14 @@ pub newton_chain-end-requires : goal.newton_chain-end-requires
 newton_chain-end-requires c = omega (arith, (profile_bounds c.args.q no_polynomial 0f).0, c.profile_limit.ensures)
 
 pub returns-in-Given : goal.returns-in-Given
-returns-in-Given c = came c.before _ c.in-Given.is
+returns-in-Given c = came (goal.at.returns-in-Given c).After-newton_chain-end _ c.in-Given.is
 
 pub returns-in-Refused : goal.returns-in-Refused
-returns-in-Refused c = came c.before _ c.in-Refused.is
+returns-in-Refused c = came (goal.at.returns-in-Refused c).After-newton_chain-end _ c.in-Refused.is
 
 pub returns-in-Again : goal.returns-in-Again
 returns-in-Again c =
-    let p = c.before in
+    let p = (goal.at.returns-in-Again c).After-newton_chain-end in
     let a = p.args in
     let over = (end_bounded (shape_of a.q a.a a.semi) a.vertex a.ray
     (profile_bounds a.q a.a a.semi).0).0 in

@@ -14,14 +14,11 @@ use Rattle.surfaces.proofs.Passes.{more}
 use Rattle.surfaces.proofs.Chains.{chain_on, chain_off}
 use Rattle.surfaces.proofs.Refusals.{never_going}
 use Rattle.surfaces.proofs.newton.newton_chain.Goals as goal
-use Rattle.surfaces.proofs.newton.newton_chain.Goals.{After-limited_pass-x, In-Again}
+use Rattle.surfaces.proofs.newton.newton_chain.Goals.{After-limited_pass-x}
 
 -- behind a pass
 abbrev Pass : Type 0
 Pass = After-limited_pass-x
-
-abbrev passed : In-Again → Pass
-passed c = c.before
 
 -- the passes that were asked for
 abbrev asked : Pass → Ended
@@ -75,7 +72,7 @@ overflow_add-taken c = omega (arith, c.loop-v.invariant.0, c.ranges.left)
 -- another pass is to come only before the limit
 pub overflow_add-at : goal.overflow_add-at
 overflow_add-at c =
-    let p = passed c.before in
+    let p = (goal.at.overflow_add-at c).After-limited_pass-x in
     let a = p.args in
     let l = p.loop-v in
     let s = shape_of a.q a.a a.semi in
@@ -87,7 +84,7 @@ loop-v-smaller c = omega (arith, c.loop-v.invariant.0)
 
 pub loop-v-preserved : goal.loop-v-preserved
 loop-v-preserved c =
-    let p = passed c.before in
+    let p = (goal.at.loop-v-preserved c).After-limited_pass-x in
     let l = p.loop-v in (
       omega (arith, l.invariant.0, c.if-taken-left.false),
       omega (arith, l.invariant.1),
@@ -97,7 +94,7 @@ loop-v-preserved c =
 pub returns-then-taken-left : goal.returns-then-taken-left
 unfolding chain_by
 returns-then-taken-left c =
-    let p = passed c.before in
+    let p = (goal.at.returns-then-taken-left c).After-limited_pass-x in
     let a = p.args in
     let l = p.loop-v in
     let e = c.in-Again.is in
@@ -106,7 +103,8 @@ returns-then-taken-left c =
     rw n (rw z at (on p _ e refl))
 
 pub returns-in-Given : goal.returns-in-Given
-returns-in-Given c = off c.before _ c.in-Given.is refl
+returns-in-Given c = off (goal.at.returns-in-Given c).After-limited_pass-x _ c.in-Given.is refl
 
 pub returns-in-Refused : goal.returns-in-Refused
-returns-in-Refused c = off c.before _ c.in-Refused.is (never_going c.in-Refused.field-0)
+returns-in-Refused c =
+    off (goal.at.returns-in-Refused c).After-limited_pass-x _ c.in-Refused.is (never_going c.in-Refused.field-0)

@@ -15,54 +15,67 @@ use Rattle.trace.specs.declared.state.State.{State}
 use Rattle.trace.specs.Leg.{width}
 use Rattle.trace.specs.State.{Held, held, paused_at, surface_left, advance}
 use Rattle.trace.specs.Run.{items_of}
-use Rattle.surfaces.specs.Surface.{chain}
 use Rattle.surfaces.specs.declared.newton.Progress.{Progress}
-use Rattle.recipe.specs.declared.record.ReadRecord.{ReadRecord}
-use Rattle.recipe.specs.Record.{read_at}
 use Rattle.trace.specs.Parts.{blanks, lent_from}
 use Rattle.trace.proofs.Walks.{Bounds, Came, bounds, pauses, leaves, read_is, room, came}
 use Rattle.trace.proofs.Walks.{runs_done, runs_ended}
 use Rattle.trace.proofs.Kept.{Keeps, keeps_first, keeps_long, keeps_room, keeps_is, keeps_next}
 use Rattle.trace.proofs.run.walk.Goals as goal
-use Rattle.trace.proofs.run.walk.Goals.{in-Given, in-Refused}
+use Rattle.trace.proofs.run.walk.Goals.{After-chain-progress, in-Given, in-Refused}
 
--- on one surface: behind the reading of its record r and behind its passes p
-module _ {b : List ℕ} {count first allowed : ℕ} {s₀ : State} (y₀ : List Float) {s : State} {y : List Float} {left : ℕ}
-    (p : Progress) (k : Keeps b count first allowed (held s₀ (blanks first ++ y₀)) s y left)
-    (run : s.outcome ≡ 0) (some : 0 < left) {r : ReadRecord} (reads : r ≡ read_at b s.place)
-    (chains : told_progress s.passes p ≡ chain r.optic.surface s.beam.ray left s.passes s.t) where
+-- on one surface, behind its passes
+module _ (c : After-chain-progress) where
+  abbrev b : List ℕ
+  b = c.args.recipe.now
+
+  abbrev came_in : Held
+  came_in = held c.args.state (blanks c.args.first ++ c.args.buf.now)
+
+  abbrev s : State
+  s = c.surfaces.s
+
+  abbrev p : Progress
+  p = c.chain-progress.result
+
+  abbrev k : Keeps b c.args.count c.args.first c.args.allowed came_in s c.surfaces.buf c.surfaces.left
+  k = c.surfaces.invariant
+
   -- before the passes, with the whole buffer
   abbrev here : Held
   here = held s k.full
 
-  came_to : Came b count here left (told_progress s.passes p)
+  came_to : Came b c.args.count here c.surfaces.left (told_progress s.passes p)
   came_to =
-      subst (λ (e : Ended). Came b count here left e) (sym chains)
-      (came _ _ k.runs.ready.good here _ k.runs.ready run some _ reads)
+      subst (λ (e : Ended). Came b c.args.count here c.surfaces.left e) (sym c.chain-progress.ensures)
+      (came _ _ k.runs.ready.good here _ k.runs.ready c.if-s-ne-RUNNING.false c.surfaces-test.true _
+      c.read_record-read.ensures)
 
-  taken : Bounds here left p.taken
+  taken : Bounds here c.surfaces.left p.taken
   taken = bounds _ _ k.runs.ready.good _ came_to refl
 
-  roomy : (width * s.number + width ≤ length k.full) × (s.number < count)
-  roomy = room _ _ k.runs.ready.good here _ k.runs.ready run some
+  roomy : (width * s.number + width ≤ length k.full) × (s.number < c.args.count)
+  roomy = room _ _ k.runs.ready.good here _ k.runs.ready c.if-s-ne-RUNNING.false c.surfaces-test.true
 
   -- what a surface's end leaves in the whole buffer, by what its crossing tells
   abbrev leaving : Crossing → Held
-  leaving x = surface_left here r.next count r.optic (told_crossing x) (s.passes + p.taken) (s.steps + p.taken)
+  leaving x =
+      let r = c.read_record-read.result in
+      surface_left here r.next c.args.count r.optic (told_crossing x) (s.passes + p.taken) (s.steps + p.taken)
 
   left_at : (x : Crossing) → told_passed p.passed ≡ told_crossing x → going (told_crossing x) ≡ false →
-      (q : State) (w : List Float) → held q w ≡ lent_from first (leaving x) →
-      Keeps b count first allowed (held s₀ (blanks first ++ y₀)) q w (left - p.taken)
+      (q : State) (w : List Float) → held q w ≡ lent_from c.args.first (leaving x) →
+      Keeps b c.args.count c.args.first c.args.allowed came_in q w (c.surfaces.left - p.taken)
   left_at x e g q w by =
       keeps_next _ _ _ _ _ _ (leaving x)
       (leaves _ _ k.runs.ready.good _ came_to refl (ap going e ∙ g)
-      (read_is _ _ k.runs.ready.good here _ k.runs.ready run some _ reads)
+      (read_is _ _ k.runs.ready.good here _ k.runs.ready c.if-s-ne-RUNNING.false c.surfaces-test.true _
+      c.read_record-read.ensures)
       (leaving x) (rw e) k.runs)
       q w by
 
   stays : going (told_passed p.passed) ≡ true →
-      held (paused_at s (s.passes + p.taken) (told_passed p.passed).value.t (s.steps + p.taken)) y
-      ≡ lent_from first (advance (items_of b) allowed (held s₀ (blanks first ++ y₀)))
+      held (paused_at s (s.passes + p.taken) (told_passed p.passed).value.t (s.steps + p.taken)) c.surfaces.buf
+      ≡ lent_from c.args.first (advance (items_of b) c.args.allowed came_in)
   stays g =
       keeps_is _ _ _ _ _ _ k _ _
       (pauses _ _ k.runs.ready.good _ came_to refl g ∙ sym k.runs.same)
@@ -72,38 +85,32 @@ surfaces-init c = keeps_first _ _ _ _ _ _ c.requires.0
 
 pub overflow_sub-left : goal.overflow_sub-left
 overflow_sub-left c =
-    let t = taken c.args.buf.now c.chain-progress.result c.surfaces.invariant c.if-s-ne-RUNNING.false
-    c.surfaces-test.true c.read_record-read.ensures c.chain-progress.ensures in
+    let t = taken (goal.at.overflow_sub-left c).After-chain-progress in
     omega (arith, t.1)
 
 pub overflow_add-passes : goal.overflow_add-passes
 overflow_add-passes c =
-    let t = taken c.args.buf.now c.chain-progress.result c.surfaces.invariant c.if-s-ne-RUNNING.false
-    c.surfaces-test.true c.read_record-read.ensures c.chain-progress.ensures in
+    let t = taken (goal.at.overflow_add-passes c).After-chain-progress in
     omega (arith, t.2)
 
 pub overflow_add-steps : goal.overflow_add-steps
 overflow_add-steps c =
-    let t = taken c.args.buf.now c.chain-progress.result c.surfaces.invariant c.if-s-ne-RUNNING.false
-    c.surfaces-test.true c.read_record-read.ensures c.chain-progress.ensures in
+    let t = taken (goal.at.overflow_add-steps c).After-chain-progress in
     omega (arith, t.1, c.surfaces.invariant.runs.steps, c.requires.1, c.ranges.allowed)
 
 pub leave-s-requires : goal.leave-s-requires
 leave-s-requires c =
-    let w = roomy c.args.buf.now c.chain-progress.result c.surfaces.invariant c.if-s-ne-RUNNING.false
-    c.surfaces-test.true c.read_record-read.ensures c.chain-progress.ensures in
+    let w = roomy (goal.at.leave-s-requires c).After-chain-progress in
     (keeps_room _ _ _ _ _ _ c.surfaces.invariant w.0, omega (arith, w.1, c.ranges.count))
 
 pub surfaces-smaller : goal.surfaces-smaller
 surfaces-smaller c =
-    let t = taken c.args.buf.now c.chain-progress.result c.surfaces.invariant c.if-s-ne-RUNNING.false
-    c.surfaces-test.true c.read_record-read.ensures c.chain-progress.ensures in
+    let t = taken (goal.at.surfaces-smaller c).After-chain-progress in
     omega (arith, t.0, t.1)
 
 pub surfaces-preserved : goal.surfaces-preserved
 surfaces-preserved c =
-    let at = left_at c.args.buf.now c.chain-progress.result c.surfaces.invariant c.if-s-ne-RUNNING.false
-    c.surfaces-test.true c.read_record-read.ensures c.chain-progress.ensures in
+    let at = left_at (goal.at.surfaces-preserved c).After-chain-progress in
     let came = c.leave-s.ensures _ c.surfaces.invariant.kept in
     elim c.match-passed.branch [
       | in-Given w ↦ at c.match-passed.crossing (ap told_passed w.in-Given.is ∙ ap told_crossing (sym w.crossing-is))
@@ -139,5 +146,4 @@ returns-in-Again c =
     let e = ap told_passed c.in-Again.is in
     ap (λ (q : State). held q c.surfaces.buf) c.paused-s.ensures
     ∙ ap (λ (x : Told Landing). held (paused_at s (s.passes + n) x.value.t (s.steps + n)) c.surfaces.buf) (sym e)
-    ∙ stays c.args.buf.now c.chain-progress.result c.surfaces.invariant c.if-s-ne-RUNNING.false
-    c.surfaces-test.true c.read_record-read.ensures c.chain-progress.ensures (ap going e)
+    ∙ stays (goal.at.returns-in-Again c).After-chain-progress (ap going e)

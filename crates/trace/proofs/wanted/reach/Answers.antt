@@ -11,6 +11,18 @@ use Rattle.trace.specs.Wanted.{reach_of}
 use Rattle.trace.proofs.Reaches.{reach_bad, reach_short, reach_ray, Asked, cut_inside, walk_ready}
 use Rattle.trace.proofs.Reaches.{reach_done}
 use Rattle.trace.proofs.wanted.reach.Goals as goal
+use Rattle.trace.proofs.wanted.reach.Goals.{Else-n-ne-ACCEPTED}
+
+-- where all checks have passed
+asked : (c : Else-n-ne-ACCEPTED) → let a = c.args in Asked a.recipe.now a.ray a.index a.wanted c.check-c.result
+asked c =
+    record {
+      low = c.if-wanted-ge-MOST_RECORDS.false;
+      checked = c.check-c.ensures;
+      good = c.if-c-ne-ACCEPTED.false;
+      there = c.if-c-wanted.false;
+      beam = sym c.ray_admission-n.ensures ∙ c.if-n-ne-ACCEPTED.false;
+    }
 
 pub returns-then-wanted-ge-MOST_RECORDS : goal.returns-then-wanted-ge-MOST_RECORDS
 unfolding reach_of
@@ -41,43 +53,16 @@ returns-then-n-ne-ACCEPTED c =
 
 pub slice_bounds-walk-end : goal.slice_bounds-walk-end
 slice_bounds-walk-end c =
-    let a = c.args in
-    let asked : Asked a.recipe.now a.ray a.index a.wanted c.check-c.result =
-    record {
-      low = c.if-wanted-ge-MOST_RECORDS.false;
-      checked = c.check-c.ensures;
-      good = c.if-c-ne-ACCEPTED.false;
-      there = c.if-c-wanted.false;
-      beam = sym c.ray_admission-n.ensures ∙ c.if-n-ne-ACCEPTED.false;
-    } in
-    sym (length-take-le _ _ (cut_inside asked))
+    sym (length-take-le _ _ (cut_inside (asked (goal.at.slice_bounds-walk-end c).Else-n-ne-ACCEPTED)))
 
 pub walk-requires : goal.walk-requires
 unfolding decimal of_bits
 walk-requires c =
-    let a = c.args in
-    let asked : Asked a.recipe.now a.ray a.index a.wanted c.check-c.result =
-    record {
-      low = c.if-wanted-ge-MOST_RECORDS.false;
-      checked = c.check-c.ensures;
-      good = c.if-c-ne-ACCEPTED.false;
-      there = c.if-c-wanted.false;
-      beam = sym c.ray_admission-n.ensures ∙ c.if-n-ne-ACCEPTED.false;
-    } in
     let first = c.before_first.ensures in
-    (rw first (walk_ready asked), rw first (omega arith))
+    (rw first (walk_ready (asked (goal.at.walk-requires c).Else-n-ne-ACCEPTED)), rw first (omega arith))
 
 pub returns : goal.returns
 unfolding decimal of_bits
 returns c =
-    let a = c.args in
-    let asked : Asked a.recipe.now a.ray a.index a.wanted c.check-c.result =
-    record {
-      low = c.if-wanted-ge-MOST_RECORDS.false;
-      checked = c.check-c.ensures;
-      good = c.if-c-ne-ACCEPTED.false;
-      there = c.if-c-wanted.false;
-      beam = sym c.ray_admission-n.ensures ∙ c.if-n-ne-ACCEPTED.false;
-    } in
-    reach_done asked _ _ (search rules)
+    reach_done (asked (goal.at.returns c).Else-n-ne-ACCEPTED) _ _ (search rules)
     (rw c.before_first.ensures at c.walk.ensures)

@@ -10,10 +10,15 @@ use Rattle.trace.specs.Leg.{width}
 use Rattle.trace.specs.Run.{Reply}
 use Rattle.trace.proofs.Starts.{on_bad, on_short, on_unfit, on_run, on_ready, on_steps, limits_few}
 use Rattle.trace.proofs.state.State.resume.Goals as goal
+use Rattle.trace.proofs.state.State.resume.Goals.{Else-buf-c}
 
 -- an answer beside a buffer
 abbrev beside : List Float → Answer → Reply
 beside z r = record { answer = r; buffer = z }
+
+-- the room that the test tells of
+long : (c : Else-buf-c) → width * c.check-c.result.count ≤ length c.args.buf.now
+long c = let h = c.if-buf-c.false in omega arith
 
 pub returns-then-c-ne-ACCEPTED : goal.returns-then-c-ne-ACCEPTED
 returns-then-c-ne-ACCEPTED c =
@@ -31,29 +36,27 @@ returns-then-buf-c c =
 pub returns-then-not-fits : goal.returns-then-not-fits
 returns-then-not-fits c =
     let a = c.args in
-    let long : width * c.check-c.result.count ≤ length a.buf.now = let h = c.if-buf-c.false in omega arith in
     ap (beside a.buf.now) c.kept-then-not-fits.ensures
     ∙ on_unfit a.recipe.now a.self a.buf.now a.allowed _ c.check-c.ensures
-    c.if-c-ne-ACCEPTED.false long
+    c.if-c-ne-ACCEPTED.false (long (goal.at.returns-then-not-fits c).Else-buf-c)
     (sym c.fits.ensures ∙ c.if-not-fits.true)
 
 pub walk-requires : goal.walk-requires
 walk-requires c =
     let a = c.args in
-    let long : width * c.check-c.result.count ≤ length a.buf.now = let h = c.if-buf-c.false in omega arith in
+    let roomy = long (goal.at.walk-requires c).Else-buf-c in
     let checked = c.check-c.ensures in
     let good = c.if-c-ne-ACCEPTED.false in
     let fits = sym c.fits.ensures ∙ c.if-not-fits.false in
-    let few = on_steps a.recipe.now a.self a.buf.now a.allowed _ checked good long fits in (
-      on_ready a.recipe.now a.self a.buf.now a.allowed _ checked good long fits,
+    let few = on_steps a.recipe.now a.self a.buf.now a.allowed _ checked good roomy fits in (
+      on_ready a.recipe.now a.self a.buf.now a.allowed _ checked good roomy fits,
       omega (arith, few, limits_few a.recipe.now),
     )
 
 pub returns : goal.returns
 returns c =
     let a = c.args in
-    let long : width * c.check-c.result.count ≤ length a.buf.now = let h = c.if-buf-c.false in omega arith in
     ap (beside c.walk.new.buf) c.kept-2.ensures
     ∙ on_run a.recipe.now a.self a.buf.now a.allowed _ c.check-c.ensures
-    c.if-c-ne-ACCEPTED.false long
+    c.if-c-ne-ACCEPTED.false (long (goal.at.returns c).Else-buf-c)
     (sym c.fits.ensures ∙ c.if-not-fits.false) _ c.walk.ensures

@@ -11,6 +11,7 @@ HEADER = "include/pilingrue.h"
 STATION = "crates/station/src/lib.rt"
 LEG = "crates/trace/src/leg.rt"
 RUN = "crates/trace/src/run.rt"
+WHY = "crates/trace/src/refusal.rt"
 STATE = "crates/trace/src/state.rt"
 RECORD = "crates/recipe/src/record.rt"
 NEWTON = "crates/surfaces/src/newton.rt"
@@ -83,7 +84,7 @@ CHANGES = {
     "another outcome": (STATE, "DONE: u8 = 1", "DONE: u8 = 0", "PILINGRUE_DONE is 1"),
     "another number in the crate": (REFUSAL, "MISSED: u8 = 6", "MISSED: u8 = 5", "PILINGRUE_MISSED is 6"),
     "a number for another": (REFUSAL, "plain(MISSED)", "plain(OUTSIDE_DOMAIN)", "MISSED is a constant of"),
-    "a number that is not named": (RUN, "kept(STATE_DOES_NOT_FIT", "kept(12", "STATE_DOES_NOT_FIT is a constant of"),
+    "a number that is not named": (WHY, "=> STATE_DOES_NOT_FIT", "=> 12", "STATE_DOES_NOT_FIT is a constant of"),
     "one number more": (RUN, "// How many records", "pub const MORE: u8 = 13;\n//", "PILINGRUE_MORE is not in include"),
     "another name in the crate": (RUN, "const MOST_RECORDS", "const LARGEST", "MOST_RECORDS is the name of no"),
     "a value of another form": (RUN, "usize = 512", "usize = 1 << 9", "run.rt: a value that cannot be read"),

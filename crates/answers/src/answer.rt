@@ -1,16 +1,10 @@
 // What is printed of an answer.
 use lines::{COUNT_BYTES, FLOAT_BYTES, put_count, put_floats, put_word, write_line};
-use std::io::Write;
+use std::io::{self, Write};
 use surfaces::{
-    ACCEPTED, Acceptance, Coefficients, ConicSurface, Crossing, Direction, EvenAsphere,
-    MOST_COEFFICIENTS, Meet, NewBiconic, NewConic, NewEven, NewOdd, NewToroid, Number, OddAsphere,
-    Pair, Refusal, Sag, VIGNETTED, Vec3, line_of,
+    ACCEPTED, BiconicSurface, Coefficients, ConicSurface, EvenAsphere, HitRecord, Landing, Line,
+    MOST_COEFFICIENTS, Meridians, OddAsphere, Refusal, ToroidalSurface, Vec3,
 };
-
-// The number of an answer with values, and one for a line that cannot be read; any other is a refusal's.
-const ANSWERED: u64 = ACCEPTED as u64;
-
-const UNREADABLE: u64 = 0;
 
 // An odd asphere has the most values: c, k, the semi-diameter and both its lists of coefficients.
 const MOST_VALUES: usize = 3 + 2 * MOST_COEFFICIENTS;
@@ -18,228 +12,171 @@ const MOST_VALUES: usize = 3 + 2 * MOST_COEFFICIENTS;
 // The most bytes of a line.
 const LINE_BYTES: usize = COUNT_BYTES + MOST_VALUES * FLOAT_BYTES;
 
-// The table's number (SCOPE T1), or 0 for a line that cannot be read, and the first `count` of the values.
+// The table's number (SCOPE T1), and the first `count` of the values: a fixed array, since there is no heap.
 #[derive(Drop)]
 pub struct Printed {
-    pub number: u64,
+    pub number: u8,
     pub count: usize,
     pub values: [f64; MOST_VALUES],
 }
 
-pub(crate) fn unreadable() -> Printed {
-    numbered(UNREADABLE)
-}
-
-fn done() -> Printed {
-    numbered(ANSWERED)
-}
-
-pub(crate) fn just(x: f64) -> Printed {
-    done().with(x)
-}
-
-fn numbered(number: u64) -> Printed {
-    Printed {
-        number,
-        count: 0,
-        values: [0.0; MOST_VALUES],
-    }
-}
-
-pub(crate) fn truth(b: bool) -> f64 {
-    if b { 1.0 } else { 0.0 }
-}
-
 impl Printed {
-    // One value more, while there is room.
-    pub(crate) fn with(self, x: f64) -> Printed {
-        let n = self.count;
-        let mut values = self.values;
-        if n < MOST_VALUES {
-            values[n] = x;
-            return Printed {
-                number: self.number,
-                count: n + 1,
-                values,
-            };
+    fn numbered(number: u8) -> Printed {
+        Printed {
+            number,
+            count: 0,
+            values: [0.0; MOST_VALUES],
+        }
+    }
+
+    // One number more, while there is room.
+    fn push(mut self, x: f64) -> Printed {
+        if self.count < MOST_VALUES {
+            self.values[self.count] = x;
+            self.count += 1;
         }
         self
     }
 
-    pub(crate) fn with_vector(self, v: Vec3) -> Printed {
-        self.with(v.x).with(v.y).with(v.z)
-    }
-
-    fn with_coefficients(self, a: Coefficients) -> Printed {
-        let count = a.count;
-        let values = a.values;
-        let mut answer = self;
-        for i in 0..MOST_COEFFICIENTS {
-            if count <= i {
-                return answer;
-            }
-            answer = answer.with(values[i]);
-        }
-        answer
-    }
-
-    // Tells whether that succeeded.
-    pub(crate) fn print<W: Write>(self, output: &mut W) -> bool {
-        let mut line = [0u8; LINE_BYTES];
-        let end = self.put(&mut line);
-        write_line(output, &mut line, end)
+    fn with<T: Shown>(self, value: T) -> Printed {
+        value.show(self)
     }
 
     fn put(self, line: &mut [u8]) -> usize {
-        if self.number == UNREADABLE {
-            return put_word(line, 0, b"?");
-        }
-        let count = self.count;
-        let values = self.values;
-        let end = put_count(line, 0, self.number);
-        put_floats(line, end, first(&values, count))
+        let end = put_count(line, 0, u64::from(self.number));
+        put_floats(line, end, &self.values[..self.count.min(MOST_VALUES)])
     }
 }
 
-// The first n values, as many as there are.
-fn first(values: &[f64], n: usize) -> &[f64] {
-    if n < values.len() {
-        return &values[..n];
-    }
-    values
+// What is printed as its numbers, one after the other.
+pub(crate) trait Shown {
+    fn show(self, answer: Printed) -> Printed;
 }
 
-pub(crate) fn refused(e: Refusal) -> Printed {
-    let line = line_of(e);
-    let answer = numbered(line.number as u64);
-    if line.number == VIGNETTED {
-        answer.with(line.r).with(line.limit)
-    } else {
+impl Shown for f64 {
+    fn show(self, answer: Printed) -> Printed {
+        answer.push(self)
+    }
+}
+
+impl Shown for bool {
+    fn show(self, answer: Printed) -> Printed {
+        answer.push(f64::from(self))
+    }
+}
+
+impl Shown for Vec3 {
+    fn show(self, answer: Printed) -> Printed {
+        answer.with(self.x).with(self.y).with(self.z)
+    }
+}
+
+impl Shown for Meridians {
+    fn show(self, answer: Printed) -> Printed {
+        answer.with(self.x).with(self.y)
+    }
+}
+
+impl Shown for Landing {
+    fn show(self, answer: Printed) -> Printed {
+        answer.with(self.t).with(self.point)
+    }
+}
+
+impl Shown for HitRecord {
+    fn show(self, answer: Printed) -> Printed {
         answer
+            .with(self.t)
+            .with(self.point)
+            .with(self.normal)
+            .with(self.front)
     }
 }
 
-pub(crate) fn number(a: Number) -> Printed {
+impl Shown for Coefficients {
+    fn show(self, answer: Printed) -> Printed {
+        self.terms().iter().fold(answer, |a, x| a.push(*x))
+    }
+}
+
+impl Shown for ConicSurface {
+    fn show(self, answer: Printed) -> Printed {
+        answer
+            .with(self.vertex)
+            .with(self.curvature)
+            .with(self.conic)
+            .with(self.semi)
+    }
+}
+
+impl Shown for EvenAsphere {
+    fn show(self, answer: Printed) -> Printed {
+        answer
+            .with(self.curvature)
+            .with(self.conic)
+            .with(self.semi)
+            .with(self.coefficients)
+    }
+}
+
+impl Shown for OddAsphere {
+    fn show(self, answer: Printed) -> Printed {
+        answer
+            .with(self.curvature)
+            .with(self.conic)
+            .with(self.semi)
+            .with(self.even)
+            .with(self.odd)
+    }
+}
+
+impl Shown for BiconicSurface {
+    fn show(self, answer: Printed) -> Printed {
+        answer
+            .with(self.cx)
+            .with(self.kx)
+            .with(self.cy)
+            .with(self.ky)
+            .with(self.semi)
+    }
+}
+
+impl Shown for ToroidalSurface {
+    fn show(self, answer: Printed) -> Printed {
+        answer
+            .with(self.rx)
+            .with(self.cy)
+            .with(self.ky)
+            .with(self.semi)
+    }
+}
+
+// What cannot be refused.
+pub(crate) fn just<T: Shown>(value: T) -> Printed {
+    Printed::numbered(ACCEPTED).with(value)
+}
+
+pub(crate) fn answer<T: Shown>(a: Result<T, Refusal>) -> Printed {
     match a {
-        Number::Given(x) => done().with(x),
-        Number::Refused(e) => refused(e),
+        Ok(value) => just(value),
+        Err(e) => refused(e),
     }
 }
 
-pub(crate) fn sag(a: Sag) -> Printed {
-    match a {
-        Sag::Given(z) => done().with(z),
-        Sag::Refused(e) => refused(e),
+fn refused(e: Refusal) -> Printed {
+    let answer = Printed::numbered(Line::from(e).number);
+    match e {
+        Refusal::RayVignetted { r, limit } => answer.with(r).with(limit),
+        _ => answer,
     }
 }
 
-pub(crate) fn pair(a: Pair) -> Printed {
-    match a {
-        Pair::Given(m) => done().with(m.x).with(m.y),
-        Pair::Refused(e) => refused(e),
-    }
-}
-
-pub(crate) fn direction(a: Direction) -> Printed {
-    match a {
-        Direction::Given(v) => done().with_vector(v),
-        Direction::Refused(e) => refused(e),
-    }
-}
-
-pub(crate) fn crossing(a: Crossing) -> Printed {
-    match a {
-        Crossing::Given(l) => {
-            let p = l.point;
-            done().with(l.t).with_vector(p)
-        }
-        Crossing::Refused(e) => refused(e),
-    }
-}
-
-pub(crate) fn meet(a: Meet) -> Printed {
-    match a {
-        Meet::Given(h) => {
-            let p = h.point;
-            let n = h.normal;
-            done()
-                .with(h.t)
-                .with_vector(p)
-                .with_vector(n)
-                .with(truth(h.front))
-        }
-        Meet::Refused(e) => refused(e),
-    }
-}
-
-pub(crate) fn conic(s: ConicSurface) -> Printed {
-    done()
-        .with(s.vertex)
-        .with(s.curvature)
-        .with(s.conic)
-        .with(s.semi)
-}
-
-pub(crate) fn new_conic(a: NewConic) -> Printed {
-    match a {
-        NewConic::Given(s) => conic(s),
-        NewConic::Refused(e) => refused(e),
-    }
-}
-
-fn even(s: EvenAsphere) -> Printed {
-    let a = s.coefficients;
-    done()
-        .with(s.curvature)
-        .with(s.conic)
-        .with(s.semi)
-        .with_coefficients(a)
-}
-
-pub(crate) fn new_even(a: NewEven) -> Printed {
-    let acceptance = a.acceptance;
-    let s = a.surface;
-    match acceptance {
-        Acceptance::Given => even(s),
-        Acceptance::Refused(e) => refused(e),
-    }
-}
-
-fn odd(s: OddAsphere) -> Printed {
-    let a = s.even;
-    let b = s.odd;
-    done()
-        .with(s.curvature)
-        .with(s.conic)
-        .with(s.semi)
-        .with_coefficients(a)
-        .with_coefficients(b)
-}
-
-pub(crate) fn new_odd(a: NewOdd) -> Printed {
-    let acceptance = a.acceptance;
-    let s = a.surface;
-    match acceptance {
-        Acceptance::Given => odd(s),
-        Acceptance::Refused(e) => refused(e),
-    }
-}
-
-pub(crate) fn new_biconic(a: NewBiconic) -> Printed {
-    match a {
-        NewBiconic::Given(s) => done()
-            .with(s.cx)
-            .with(s.kx)
-            .with(s.cy)
-            .with(s.ky)
-            .with(s.semi),
-        NewBiconic::Refused(e) => refused(e),
-    }
-}
-
-pub(crate) fn new_toroid(a: NewToroid) -> Printed {
-    match a {
-        NewToroid::Given(s) => done().with(s.rx).with(s.cy).with(s.ky).with(s.semi),
-        NewToroid::Refused(e) => refused(e),
-    }
+// A line that cannot be read has no answer.
+pub(crate) fn print<W: Write>(answer: Option<Printed>, output: &mut W) -> io::Result<()> {
+    let mut line = [0u8; LINE_BYTES];
+    let end = match answer {
+        Some(printed) => printed.put(&mut line),
+        None => put_word(&mut line, 0, b"?"),
+    };
+    write_line(output, &mut line, end)
 }

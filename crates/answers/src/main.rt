@@ -10,73 +10,61 @@ mod biconic;
 mod conic;
 mod operands;
 mod plain;
-mod table;
 
-ghost use Rattle.std.specs.Prelude.{◌≤◌};
-
-use answer::{Printed, unreadable};
+use answer::{Printed, print};
 use asphere::{answer_even, answer_odd};
 use biconic::{answer_biconic, answer_toroid};
 use conic::answer_conic;
-use lines::{LONGEST_LINE, ReadLine, Unread, next_line, next_word, part};
-use operands::{Operands, Values, read_operands};
+use lines::{LONGEST_LINE, Lines, Words};
+use operands::{Operands, read_operands};
 use plain::answer_plain;
-use std::io::{Read, Write};
+use std::io::{Read, Result, Write};
 
 // The longest line that is read, and its line feed.
 const BUFFER: usize = LONGEST_LINE + 1;
 
 // What stands before a name's first `_` tells of which kind of surface it is, if of any.
-fn answer_numbers(name: &[u8], v: &Values, count: usize) -> Printed
-    requires { count ≤ 64 }
-{
-    let end = name.len();
-    let mark = name.iter().position(|b| *b == b'_').unwrap_or(end);
-    let kind = part(name, 0, mark);
-    let method = part(name, mark + 1, end);
+fn answer_numbers(name: &[u8], operands: &[f64]) -> Option<Printed> {
+    let mut parts = name.splitn(2, |b| *b == b'_');
+    let kind = parts.next().unwrap_or_default();
+    let method = parts.next().unwrap_or_default();
     match kind {
-        b"conic" => answer_conic(method, v, count),
-        b"even" => answer_even(method, v, count),
-        b"biconic" => answer_biconic(method, v, count),
-        b"toroid" => answer_toroid(method, v, count),
-        _ => answer_plain(name, v, count),
+        b"conic" => answer_conic(method, operands),
+        b"even" => answer_even(method, operands),
+        b"biconic" => answer_biconic(method, operands),
+        b"toroid" => answer_toroid(method, operands),
+        _ => answer_plain(name, operands),
     }
 }
 
-fn answer_line(line: &[u8]) -> Printed {
+fn answer_line(line: &[u8]) -> Option<Printed> {
     let mut values = [0.0; 64];
-    let word = next_word(line, 0);
-    let name = part(line, word.start, word.end);
-    match read_operands(line, word.end, &mut values) {
-        Operands::Plain(count) => answer_numbers(name, &values, count),
-        Operands::Marked { before, even, odd } => answer_odd(name, &values, before, even, odd),
-        Operands::Unreadable => unreadable(),
-    }
-}
-
-// Tells whether to go on.
-fn answer_next<W: Write>(output: &mut W, line: ReadLine, buffer: &[u8]) -> bool {
-    match line {
-        ReadLine::Given { start, end } => answer_line(part(buffer, start, end)).print(output),
-        ReadLine::TooLong => unreadable().print(output),
-        ReadLine::End => false,
+    let mut words = Words(line);
+    let name = words.next()?;
+    match read_operands(words, &mut values)? {
+        Operands::Plain(count) => answer_numbers(name, &values[..count]),
+        Operands::Marked { before, even, odd } => answer_odd(
+            name,
+            &values[..before],
+            &values[before..before + even],
+            &values[before + even..before + even + odd],
+        ),
     }
 }
 
 // Nothing says that the input ends, and a proved loop has to: no run uses up so many turns.
-fn answer_all<R: Read, W: Write>(input: &mut R, output: &mut W, buffer: &mut [u8]) {
-    let mut unread = Unread { from: 0, to: 0 };
+fn answer_all<R: Read, W: Write>(lines: &mut Lines<R, BUFFER>, output: &mut W) -> Result<()> {
     for _ in 0..u64::MAX {
-        let next = next_line(input, buffer, unread);
-        let line = next.line;
-        if !answer_next(output, line, buffer) {
-            return;
-        }
-        unread = next.unread;
+        let Some(line) = lines.next_line() else {
+            break;
+        };
+        print(line.ok().and_then(answer_line), output)?;
     }
+    Ok(())
 }
 
 fn main(rt: HostRuntime) {
-    let mut buffer = [0u8; BUFFER];
-    answer_all(&mut rt.stdin(), &mut rt.stdout(), &mut buffer);
+    let mut lines = Lines::new(rt.stdin());
+    // a writing that fails ends the run, as the input's end does
+    let _ = answer_all(&mut lines, &mut rt.stdout());
 }

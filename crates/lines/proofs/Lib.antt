@@ -1,3 +1,3 @@
--- Laws on numbers that words spell. What is `pub` is lent to the crates above.
+-- Laws on how numbers are put.
+mod Bits
 mod Decimal
-pub mod Within

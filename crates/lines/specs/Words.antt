@@ -1,15 +1,14 @@
 -- The words of a line. Definitions only.
-use Rattle.std.specs.Prelude.{ℕ, ◌+◌, Bool, true, false, List, [], ◌∷◌, eqb, drop, if◌then◌else◌}
-use Rattle.std.specs.Bool.{beq}
-use Rattle.lines.specs.declared.words.Word.{Word}
+use Rattle.std.specs.Prelude.{ℕ, List, not, ◌==◌, length, take, drop, position, Option, Some, None, unwrap_or}
 
--- how many spaces a list begins with, or how many bytes that are none
-unfoldable pub run : Bool → List ℕ → ℕ
-run spaces [] = 0
-run spaces (b ∷ rest) = if beq (eqb b 32) spaces then run spaces rest + 1 else 0
+-- the word that begins the text from a place on, and what is behind it
+unfoldable pub split_at : List ℕ → Option ℕ → Option (List ℕ) × List ℕ
+split_at line None = (None, line)
+split_at line (Some start) =
+    let text = drop start line in
+    let end = unwrap_or (position (λ b. b == 32) text) (length text) in
+    (Some (take end text), drop end text)
 
--- the first word from a place on
-unfoldable pub word_from : List ℕ → ℕ → Word
-word_from line at =
-    let start = at + run true (drop at line) in
-    record { start = start; end = start + run false (drop start line) }
+-- The first word of a line, if it has one, and what is behind it. Spaces part words.
+unfoldable pub next_word : List ℕ → Option (List ℕ) × List ℕ
+next_word line = split_at line (position (λ b. not (b == 32)) line)

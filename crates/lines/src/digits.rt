@@ -1,84 +1,68 @@
 // Words that spell numbers.
-ghost use Rattle.std.specs.Prelude.{◌≡◌, ◌<◌};
-ghost use Rattle.lines.specs.Digits.{digit_value, spelled, read_count, read_float};
+ghost use Rattle.std.specs.Prelude.{◌≡◌, ◌<◌, ◌≤◌, IfSome};
+ghost use Rattle.lines.specs.Digits.{digit_value, joined, spelled, read_count, read_float};
 
 use numbers::from_bits;
 
-#[derive(Clone, Copy)]
-pub enum ReadCount {
-    Given(u64),
-    Unreadable,
-}
-
-#[derive(Clone, Copy)]
-pub enum ReadFloat {
-    Given(f64),
-    Unreadable,
-}
-
-fn wide(b: u8) -> u64
-    ensures { result ≡ b }
-{
-    b as u64
-}
-
-// The value of a hexadecimal digit of either case, and 16 for any other byte.
+// The value of a hexadecimal digit of either case.
 #[tactic(auto, unfolding(crate::specs::Digits::digit_value))]
-pub fn digit_value(b: u8) -> u64
-    ensures { result ≡ digit_value b }
+pub fn digit_value(b: u8) -> Option<u64>
+    ensures value { result ≡ digit_value b }
+    ensures within { IfSome result (λ value. value < 16) }
 {
     match b {
-        b'0'..=b'9' => wide(b - b'0'),
-        b'A'..=b'F' => wide(b - b'A' + 10),
-        b'a'..=b'f' => wide(b - b'a' + 10),
-        _ => 16,
+        b'0'..=b'9' => Some(u64::from(b - b'0')),
+        b'A'..=b'F' => Some(u64::from(b - b'A' + 10)),
+        b'a'..=b'f' => Some(u64::from(b - b'a' + 10)),
+        _ => None,
     }
+}
+
+// The number that a digit of a base makes of those before it, if it is at most `most`.
+#[tactic(auto, unfolding(crate::specs::Digits::joined))]
+fn joined(n: u64, digit: u8, base: u64, most: u64) -> Option<u64>
+    ensures number { result ≡ joined base most n digit }
+    ensures within { IfSome result (λ sum. sum ≤ most) }
+{
+    let value = digit_value(digit).filter(|value| *value < base)?;
+    n.checked_mul(base)?
+        .checked_add(value)
+        .filter(|sum| *sum <= most)
 }
 
 // The number that digits spell in a base, if it is at most `most`.
 #[tactic(auto, unfolding(crate::specs::Digits::spelled))]
-fn spelled(word: &[u8], base: u64, most: u64) -> ReadCount
-    requires { 0 < base }
-    ensures { result ≡ spelled base most 0 word.now }
+fn spelled(word: &[u8], base: u64, most: u64) -> Option<u64>
+    ensures number { result ≡ spelled base most 0 word.now }
+    ensures within { IfSome result (λ n. n ≤ most) }
 {
-    let mut n = 0u64;
-    for i in 0..word.len() {
-        let value = digit_value(word[i]);
-        if value >= base {
-            return ReadCount::Unreadable;
-        }
-        if value > most {
-            return ReadCount::Unreadable;
-        }
-        if n > (most - value) / base {
-            return ReadCount::Unreadable;
-        }
-        n = n * base + value;
+    let mut n = 0;
+    for &b in word {
+        n = joined(n, b, base, most)?;
     }
-    ReadCount::Given(n)
+    Some(n)
 }
 
 // A decimal number, at most `most`.
 #[tactic(auto, unfolding(crate::specs::Digits::read_count))]
-pub fn read_count(word: &[u8], most: u64) -> ReadCount
-    ensures { result ≡ read_count most word.now }
+pub fn read_count(word: &[u8], most: u64) -> Option<u64>
+    ensures number { result ≡ read_count most word.now }
+    ensures within { IfSome result (λ n. n ≤ most) }
 {
-    if word.len() == 0 {
-        return ReadCount::Unreadable;
+    if word.is_empty() {
+        return None;
     }
     spelled(word, 10, most)
 }
 
 // The binary64 number of a pattern of 16 hexadecimal digits.
-#[tactic(auto, unfolding(crate::specs::Digits::float_of, crate::specs::Digits::read_float))]
-pub fn read_float(word: &[u8]) -> ReadFloat
+#[tactic(auto, unfolding(crate::specs::Digits::read_float))]
+pub fn read_float(word: &[u8]) -> Option<f64>
     ensures { result ≡ read_float word.now }
 {
     if word.len() != 16 {
-        return ReadFloat::Unreadable;
+        return None;
     }
-    match spelled(word, 16, u64::MAX) {
-        ReadCount::Given(bits) => ReadFloat::Given(from_bits(bits)),
-        ReadCount::Unreadable => ReadFloat::Unreadable,
-    }
+    let bits = spelled(word, 16, u64::MAX)?;
+    Some(from_bits(bits))
 }

@@ -1,12 +1,12 @@
 // A line of words, put together in a buffer that the caller lends. A space follows each word, and the line feed takes
 // the last one's place.
-ghost use Rattle.std.specs.Prelude.{◌≡◌, ◌<◌, IsTrue, take};
+ghost use Rattle.std.specs.Prelude.{◌≡◌, ◌<◌, OnOk, take};
 ghost use Rattle.std.specs.Float.{binary64};
 ghost use Rattle.std.specs.Float.Ieee.{to_bits};
 ghost use Rattle.std.specs.Io.KnownBytes.{Appends};
 ghost use Rattle.lines.specs.Output.{glyph, hex_text, decimal_text, put, put_floats, ended};
 
-use std::io::Write;
+use std::io::{ErrorKind, Result, Write};
 
 // How many digits a count has at most, and a pattern always.
 const COUNT_DIGITS: usize = 20;
@@ -20,25 +20,22 @@ pub const FLOAT_BYTES: usize = FLOAT_DIGITS + 1;
 
 // Puts a word and a space from a place on, and answers the next place. Where there is no room it puts nothing, and the
 // place stays.
+// No struct holds a lent buffer and its place: each function over it would promise besides that it lends the same one.
 #[tactic(auto, unfolding(crate::specs::Output::put))]
 pub fn put_word(out: &mut [u8], at: usize, word: &[u8]) -> usize
     ensures { (result, out.new) ≡ put out.old at word.now }
 {
-    if out.len() <= at {
+    if out.len().saturating_sub(at) <= word.len() {
         return at;
-    }
-    if out.len() - at <= word.len() {
-        return at;
-    }
-    for i in 0..word.len() {
-        out[at + i] = word[i];
     }
     let space = at + word.len();
+    out[at..space].copy_from_slice(word);
     out[space] = b' ';
     space + 1
 }
 
 // Puts a number in decimal, as `put_word` does.
+#[tactic(auto, using(crate::proofs::Decimal::decimal_is))]
 pub fn put_count(out: &mut [u8], at: usize, n: u64) -> usize
     ensures { (result, out.new) ≡ put out.old at (decimal_text 20 n) }
 {
@@ -61,20 +58,21 @@ pub fn put_floats(out: &mut [u8], at: usize, values: &[f64]) -> usize
     ensures { (result, out.new) ≡ put_floats (at, out.old) values.now }
 {
     let mut end = at;
-    for i in 0..values.len() {
-        end = put_float(out, end, values[i]);
+    for &x in values {
+        end = put_float(out, end, x);
     }
     end
 }
 
 // A number's pattern. `to_bits` takes no NaN: one pattern stands for all of them.
+#[tactic(auto, using(crate::proofs::Bits::nan_bits))]
 pub fn bits_of(x: f64) -> u64
     ensures { result ≡ to_bits binary64 x }
 {
-    if x != x {
+    if x.is_nan() {
         0x7ff8_0000_0000_0000
     } else {
-        f64::to_bits(x)
+        x.to_bits()
     }
 }
 
@@ -84,15 +82,14 @@ fn hex_text(bits: u64) -> [u8; FLOAT_DIGITS]
 {
     let mut text = [0u8; FLOAT_DIGITS];
     let mut rest = bits;
-    let mut i = FLOAT_DIGITS;
-    while i > 0 {
-        i -= 1;
+    for i in (0..FLOAT_DIGITS).rev() {
         text[i] = glyph(rest % 16);
         rest /= 16;
     }
     text
 }
 
+// The bound is known, so that the casts lose nothing: `try_from` would need an unwrap.
 #[tactic(auto, unfolding(crate::specs::Output::glyph))]
 fn glyph(value: u64) -> u8
     requires { value < 16 }
@@ -110,23 +107,17 @@ fn glyph(value: u64) -> u8
 pub fn end_line(out: &mut [u8], end: usize)
     ensures { out.new ≡ ended out.old end }
 {
-    if end == 0 {
-        return;
+    if end != 0 && end <= out.len() {
+        out[end - 1] = b'\n';
     }
-    if end > out.len() {
-        return;
-    }
-    out[end - 1] = b'\n';
 }
 
-// Writes the words that were put, up to the next place, as a line, and tells whether that succeeded.
-pub fn write_line<W: Write>(output: &mut W, out: &mut [u8], end: usize) -> bool
+// Writes the words that were put, up to the next place, as a line.
+pub fn write_line<W: Write>(output: &mut W, out: &mut [u8], end: usize) -> Result<()>
     ensures line { out.new ≡ ended out.old end }
-    ensures written { IsTrue result → Appends (W.contents output.old) (W.contents output.new) (take end out.new) }
+    ensures written { OnOk result (Appends (W.contents output.old) (W.contents output.new) (take end out.new)) }
 {
     end_line(out, end);
-    if out.len() < end {
-        return false;
-    }
-    output.write_all(&out[..end]).is_ok()
+    let line = out.get(..end).ok_or(ErrorKind::InvalidInput)?;
+    output.write_all(line)
 }

@@ -28,27 +28,27 @@ biconic_of cx kx cy ky semi = record { cx = cx; kx = kx; cy = cy; ky = ky; semi 
 abbrev pub toroid_of : Float → Float → Float → Float → ToroidalSurface
 toroid_of rx cy ky semi = record { rx = rx; cy = cy; ky = ky; semi = semi }
 
-unfoldable pub sum_vec : Told Vec3 → Float
+abbrev pub sum_vec : Told Vec3 → Float
 sum_vec t = if done t then t.value.x +₆₄ t.value.y +₆₄ t.value.z else 0f
 
-unfoldable pub sum_landing : Told Landing → Float
+abbrev pub sum_landing : Told Landing → Float
 sum_landing t =
     let p = t.value.point in
     if done t then t.value.t +₆₄ p.x +₆₄ p.y +₆₄ p.z else 0f
 
-unfoldable pub sum_hit : Told HitRecord → Float
+abbrev pub sum_hit : Told HitRecord → Float
 sum_hit t =
     let p = t.value.point in
     let n = t.value.normal in
     if done t then t.value.t +₆₄ p.x +₆₄ p.y +₆₄ p.z +₆₄ n.x +₆₄ n.y +₆₄ n.z else 0f
 
 -- the direction behind a conic, and behind an even asphere
-unfoldable pub conic_then : Ray → ConicSurface → Float → Float → Float
+abbrev pub conic_then : Ray → ConicSurface → Float → Float → Float
 conic_then ray s n1 n2 =
     let h = conic_meet_answer ray s in
     if done h then sum_vec (refract_answer ray.direction h.value.normal n1 n2) else 0f
 
-unfoldable pub even_then : Ray → Float → EvenAsphere → Float → Float → Float
+abbrev pub even_then : Ray → Float → EvenAsphere → Float → Float → Float
 even_then ray vertex s n1 n2 =
     let l = even_crossing_answer s ray vertex in
     let n = even_normal_answer s l.value.point.x l.value.point.y in

@@ -1,16 +1,19 @@
 // Intersections and refractions, each told as the sum of its numbers, so that all of them are worked out.
+// C hands over each number by itself, so no exported function takes a ray or a surface.
+#![tactic(auto, using(surfaces::proofs::Refusals::refusals))]
+
 ghost use Rattle.std.specs.Prelude.{◌≡◌};
 ghost use Rattle.measured.specs.Surfaced.{even_of, biconic_of, toroid_of, sum_vec, sum_landing, sum_hit, conic_then};
 ghost use Rattle.measured.specs.Surfaced.{even_then};
 ghost use Rattle.surfaces.specs.Types.{ray_of};
-ghost use Rattle.surfaces.specs.Refusal.{told_crossing, told_direction};
+ghost use Rattle.surfaces.specs.Refusal.{gives};
 ghost use Rattle.surfaces.specs.Conic.{conic_surface, conic_meet_answer};
 ghost use Rattle.surfaces.specs.Asphere.{even_crossing_answer};
 ghost use Rattle.surfaces.specs.Biconic.{biconic_crossing_answer, toroid_crossing_answer};
 
 use surfaces::{
-    BiconicSurface, Coefficients, ConicSurface, Crossing, Direction, EvenAsphere, Meet,
-    ToroidalSurface, intersect_conic, ray_of, snell_refract,
+    BiconicSurface, Coefficients, ConicSurface, EvenAsphere, HitRecord, Landing, ToroidalSurface,
+    Vec3, intersect_conic, ray_of, snell_refract,
 };
 
 fn conic_of(vertex: f64, c: f64, k: f64, semi: f64) -> ConicSurface
@@ -38,25 +41,25 @@ fn even_of(c: f64, k: f64, semi: f64, a: f64, b: f64) -> EvenAsphere
     }
 }
 
-fn sum_of(x: Crossing) -> f64
-    ensures { result ≡ sum_landing (told_crossing x) }
+fn vector_sum(v: Vec3) -> f64
+    ensures { result ≡ sum_vec (gives v) }
 {
-    match x {
-        Crossing::Given(l) => {
-            let p = l.point;
-            l.t + p.x + p.y + p.z
-        }
-        Crossing::Refused(_) => 0.0,
-    }
+    v.x + v.y + v.z
 }
 
-fn total(d: Direction) -> f64
-    ensures { result ≡ sum_vec (told_direction d) }
+fn landing_sum(l: Landing) -> f64
+    ensures { result ≡ sum_landing (gives l) }
 {
-    match d {
-        Direction::Given(v) => v.x + v.y + v.z,
-        Direction::Refused(_) => 0.0,
-    }
+    let p = l.point;
+    l.t + p.x + p.y + p.z
+}
+
+fn hit_sum(h: HitRecord) -> f64
+    ensures { result ≡ sum_hit (gives h) }
+{
+    let p = h.point;
+    let n = h.normal;
+    h.t + p.x + p.y + p.z + n.x + n.y + n.z
 }
 
 #[unsafe(no_mangle)]
@@ -74,14 +77,8 @@ pub extern "C" fn measured_conic(
 ) -> f64
     ensures { result ≡ sum_hit (conic_meet_answer (ray_of ox oy oz dx dy dz) (conic_surface vertex c k semi)) }
 {
-    match intersect_conic(ray_of(ox, oy, oz, dx, dy, dz), conic_of(vertex, c, k, semi)) {
-        Meet::Given(h) => {
-            let p = h.point;
-            let n = h.normal;
-            h.t + p.x + p.y + p.z + n.x + n.y + n.z
-        }
-        Meet::Refused(_) => 0.0,
-    }
+    let s = conic_of(vertex, c, k, semi);
+    intersect_conic(ray_of(ox, oy, oz, dx, dy, dz), s).map_or(0.0, hit_sum)
 }
 
 #[unsafe(no_mangle)]
@@ -101,7 +98,9 @@ pub extern "C" fn measured_even(
 ) -> f64
     ensures { result ≡ sum_landing (even_crossing_answer (even_of c k semi a b) (ray_of ox oy oz dx dy dz) vertex) }
 {
-    sum_of(even_of(c, k, semi, a, b).intersect_ray(ray_of(ox, oy, oz, dx, dy, dz), vertex))
+    even_of(c, k, semi, a, b)
+        .intersect_ray(ray_of(ox, oy, oz, dx, dy, dz), vertex)
+        .map_or(0.0, landing_sum)
 }
 
 #[unsafe(no_mangle)]
@@ -129,7 +128,8 @@ pub extern "C" fn measured_biconic(
         ky,
         semi,
     };
-    sum_of(s.intersect_ray(ray_of(ox, oy, oz, dx, dy, dz), vertex))
+    s.intersect_ray(ray_of(ox, oy, oz, dx, dy, dz), vertex)
+        .map_or(0.0, landing_sum)
 }
 
 #[unsafe(no_mangle)]
@@ -150,7 +150,8 @@ pub extern "C" fn measured_toroid(
         ≡ sum_landing (toroid_crossing_answer (toroid_of rx cy ky semi) (ray_of ox oy oz dx dy dz) vertex) }
 {
     let s = ToroidalSurface { rx, cy, ky, semi };
-    sum_of(s.intersect_ray(ray_of(ox, oy, oz, dx, dy, dz), vertex))
+    s.intersect_ray(ray_of(ox, oy, oz, dx, dy, dz), vertex)
+        .map_or(0.0, landing_sum)
 }
 
 #[unsafe(no_mangle)]
@@ -171,14 +172,9 @@ pub extern "C" fn measured_conic_then(
     ensures { result ≡ conic_then (ray_of ox oy oz dx dy dz) (conic_surface vertex c k semi) n1 n2 }
 {
     let ray = ray_of(ox, oy, oz, dx, dy, dz);
-    match intersect_conic(ray, conic_of(vertex, c, k, semi)) {
-        Meet::Given(h) => {
-            let d = ray.direction;
-            let n = h.normal;
-            total(snell_refract(d, n, n1, n2))
-        }
-        Meet::Refused(_) => 0.0,
-    }
+    intersect_conic(ray, conic_of(vertex, c, k, semi))
+        .and_then(|h| snell_refract(ray.direction, h.normal, n1, n2))
+        .map_or(0.0, vector_sum)
 }
 
 #[unsafe(no_mangle)]
@@ -202,17 +198,8 @@ pub extern "C" fn measured_even_then(
 {
     let ray = ray_of(ox, oy, oz, dx, dy, dz);
     let s = even_of(c, k, semi, a, b);
-    match s.intersect_ray(ray, vertex) {
-        Crossing::Given(l) => {
-            let p = l.point;
-            match s.normal(p.x, p.y) {
-                Direction::Given(n) => {
-                    let d = ray.direction;
-                    total(snell_refract(d, n, n1, n2))
-                }
-                Direction::Refused(_) => 0.0,
-            }
-        }
-        Crossing::Refused(_) => 0.0,
-    }
+    s.intersect_ray(ray, vertex)
+        .and_then(|l| s.normal(l.point.x, l.point.y))
+        .and_then(|n| snell_refract(ray.direction, n, n1, n2))
+        .map_or(0.0, vector_sum)
 }

@@ -19,3 +19,4 @@ pub mod Mirror
 pub mod Bounds
 pub mod Exceeds
 pub mod RootBounds
+pub mod Literals

@@ -16,6 +16,7 @@ pub fn is_nan(x: f64) -> bool
     x != x
 }
 
+// Here and below by hand: what std promises of these leaves zeros of both signs and NaN open, or speaks of no rule.
 // The difference is 0 for a finite number and NaN for any other.
 pub fn is_finite(x: f64) -> bool
     ensures { result ≡ finite x }
@@ -56,6 +57,7 @@ pub fn max(x: f64, y: f64) -> f64
 }
 
 // Into the range from 0 to 1.
+#[tactic(auto, unfolding(crate::specs::Basic::clamped), using(crate::proofs::Literals::literals))]
 pub fn clamp(x: f64) -> f64
     ensures { result ≡ clamped x }
 {

@@ -144,6 +144,7 @@ fn form_of(b: u64) -> Form
 }
 
 // The float whose pattern is that of the form, which for most numbers is x itself. Nothing is promised of it.
+#[tactic(auto, using(crate::proofs::Patterns::within))]
 fn float_of(x: f64, b: u64, up: u64) -> f64
     requires { b < 0x7ff0_0000_0000_0000 }
 {
@@ -155,6 +156,7 @@ fn float_of(x: f64, b: u64, up: u64) -> f64
 
 // A float near 0.77 / √x, for an x whose pattern is b. Within 1/16 of 1, where lie the radicands of surfaces that are
 // not steep, it is at hand sooner. Nothing is promised of it.
+#[tactic(auto, using(crate::proofs::Patterns::within))]
 fn start(b: u64) -> f64
     requires { b < 0x7ff0_0000_0000_0000 }
 {
@@ -164,6 +166,7 @@ fn start(b: u64) -> f64
     f64::from_bits(0x5fe0_b800_0000_0000 - b / 2)
 }
 
+// b and up come apart here: what makes them a form is known of the number that they are of, not of the two alone.
 // The root that a form of b and up seeks, from a guess g at that of its number. A guess that is the root is returned as
 // it is, and waits for no test.
 fn root_of(g: f64, b: u64, up: u64) -> f64

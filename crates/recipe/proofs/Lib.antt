@@ -11,3 +11,4 @@ mod Checks
 pub mod Length
 pub mod Cuts
 pub mod Sources
+pub mod Unique

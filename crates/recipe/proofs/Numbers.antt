@@ -4,7 +4,7 @@ use native.Mathlib.Nat.{not-suc-le-zero, add-zero}
 use native.Mathlib.Numerals.{add-one}
 use native.Mathlib.Omega.{arith}
 use mathlib.Core.Path.{◌≡◌, refl, sym, ◌∙◌, ap}
-use mathlib.Core.Bool.{true, false, not}
+use mathlib.Core.Bool.{Bool, true, false, not}
 use mathlib.Core.List.{List, [], ◌∷◌, ◌++◌}
 use lib.ListN.{length, set, replicate}
 use lib.Seq.{set_at, append_snoc}
@@ -14,23 +14,33 @@ use Rattle.numbers.specs.Arithmetic.{0f}
 use Rattle.surfaces.specs.Types.{every_finite}
 use Rattle.recipe.specs.Endian.{number_at, numbers_at}
 use Rattle.recipe.specs.Record.{coefficients_at}
+use Rattle.numbers.proofs.Literals.{literals}
 use Rattle.numbers.proofs.Choice.{both, goes_on, ends_there}
 
-module _ (b : List ℕ) (at : ℕ) where
-  pub finite_turn : (n : ℕ) → 0 < n → not (finite (number_at b at)) ≡ false
-      → every_finite (numbers_at b at n) ≡ every_finite (numbers_at b (at + 8) (n - 1))
-  unfolding every_finite numbers_at
-  finite_turn zero h e = absurd (not-suc-le-zero h)
-  finite_turn (suc n) h e = let p : suc n - 1 ≡ n = omega arith in rw p (goes_on (finite (number_at b at)) _ e)
+-- those from the i-th on, where it is finite, where it is not, and where there are none
+module _ (b : List ℕ) (at n i : ℕ) where
+  abbrev rest : ℕ → Bool
+  rest k = every_finite (numbers_at b (at + 8 * k) (n - k))
 
-  pub finite_stop : (n : ℕ) → 0 < n → not (finite (number_at b at)) ≡ true → every_finite (numbers_at b at n) ≡ false
+  pub finite_turn : i < n → not (finite (number_at b (at + 8 * i))) ≡ false → rest i ≡ rest (i + 1)
   unfolding every_finite numbers_at
-  finite_stop zero h e = absurd (not-suc-le-zero h)
-  finite_stop (suc n) h e = ends_there (finite (number_at b at)) _ e
+  finite_turn h e =
+      let p : n - i ≡ suc (n - (i + 1)) = omega arith in
+      let q : at + 8 * (i + 1) ≡ at + 8 * i + 8 = omega arith in
+      rw (p, q) (goes_on (finite (number_at b (at + 8 * i))) _ e)
 
-  pub finite_end : (n : ℕ) → n ≤ 0 → every_finite (numbers_at b at n) ≡ true
+  pub finite_stop : i < n → not (finite (number_at b (at + 8 * i))) ≡ true → rest i ≡ false
   unfolding every_finite numbers_at
-  finite_end n h = let e : n ≡ 0 = omega arith in rw e
+  finite_stop h e =
+      let p : n - i ≡ suc (n - (i + 1)) = omega arith in
+      rw p (ends_there (finite (number_at b (at + 8 * i))) _ e)
+
+  pub finite_end : n ≤ i → rest i ≡ true
+  unfolding every_finite numbers_at
+  finite_end h = let e : n - i ≡ 0 = omega arith in rw e
+
+-- a loop over them: a turn, and both ways out
+pub ruleset finite_so_far = (finite_turn, finite_stop, finite_end)
 
 pub finite_at : (b : List ℕ) (at n i : ℕ) → i < n → every_finite (numbers_at b at n) ≡ true
     → finite (number_at b (at + 8 * i)) ≡ true
@@ -65,3 +75,14 @@ term_more b at i l h e =
     ∙ set_at (numbers_at b at i) 0f rest x i (length_numbers b at i)
     ∙ sym (append_snoc (numbers_at b at i) x rest)
     ∙ rw (add-one, numbers_snoc)
+
+pub none_read : (b : List ℕ) (at : ℕ) → replicate 8 0f ≡ (coefficients_at b at 0).values
+unfolding coefficients_at numbers_at
+none_read b at = refl
+
+pub all_read : (b : List ℕ) (at n : ℕ) (l : List Float) → l ≡ (coefficients_at b at n).values
+    → record { count = n; values = l } ≡ coefficients_at b at n
+unfolding coefficients_at
+all_read b at n l h = rw h
+
+pub ruleset coefficients = (literals, none_read, term_more, all_read)

@@ -14,10 +14,11 @@ use Rattle.numbers.specs.Arithmetic.{◌<₆₄◌, ◌≤₆₄◌, 0f}
 use Rattle.surfaces.specs.Types.{every_finite}
 use Rattle.numbers.specs.Arithmetic.{one_of}
 use Rattle.numbers.proofs.Choice.{either}
+use Rattle.numbers.proofs.Literals.{literals}
 use Rattle.recipe.specs.declared.record.Optic.{Optic}
 use Rattle.recipe.specs.Endian.{numbers_at}
 use Rattle.recipe.specs.Record.{Read, bad, good, length_at, kind_at, end_at, slot_at, longest, shaped_at}
-use Rattle.recipe.specs.Record.{semi_slot, optic_at, negative_semi, record_at, read_at}
+use Rattle.recipe.specs.Record.{semi_slot, kind_of, optic_at, negative_semi, record_at, read_at}
 use Rattle.recipe.proofs.Numbers.{finite_at}
 use Rattle.recipe.proofs.Shapes.{shape}
 
@@ -42,6 +43,12 @@ not_1 h e = false≢true (rw e at h)
 abbrev Numbered : Read → Type 0
 Numbered (bad n) = Refuses n
 Numbered (good o next) = Unit {0}
+
+pub kind_there : (b : List ℕ) (at : ℕ) → (optic_at b at).surface.kind ≡ kind_of (kind_at b at % 256) (slot_at b at)
+unfolding optic_at
+kind_there b at = refl
+
+pub ruleset looking = (literals, kind_there)
 
 module _ (b : List ℕ) (at : ℕ) where
   abbrev judged : Bool → Bool → Bool → Bool → Read

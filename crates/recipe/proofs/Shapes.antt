@@ -1,7 +1,7 @@
 -- What the shape of a record tells of its places: all that is read of it lies within it, and it within the recipe.
 -- Assumes nothing.
 use Rattle.std.specs.Prelude.{if◌then◌else◌}
-use Prim.Native.Nat.{ℕ, ◌+◌, ◌-◌, ◌*◌, ◌/◌, ◌%◌, ◌≤◌}
+use Prim.Native.Nat.{ℕ, ◌+◌, ◌*◌, ◌/◌, ◌%◌, ◌≤◌}
 use mathlib.Core.Path.{◌≡◌, refl}
 use mathlib.Core.Logic.{◌⊎◌, inl, inr, ⊎_elim}
 use mathlib.Core.Bool.{Bool, true, false, ◌&&◌, ◌||◌}
@@ -9,29 +9,12 @@ use mathlib.Core.List.{List}
 use native.Mathlib.Omega.{arith}
 use lib.ListN.{length}
 use lib.Dec.{eqb, leb, lit≤}
-use borrow.Author.Tests.{leb-true, leb-false, eqb-true, le-leb, lt-leb}
+use borrow.Author.Tests.{leb-true, eqb-true}
 use Rattle.numbers.proofs.Choice.{either, both}
+use Rattle.recipe.specs.Shape.{Fitting, Formed, Shape}
 use Rattle.recipe.specs.Source.{source_bytes, is_source}
 use Rattle.recipe.specs.Record.{length_at, kind_at, end_at, length_fits, formed_at, longest, shaped_at, semi_slot}
 use Rattle.recipe.specs.Record.{odd_count, even_count}
-
--- a length that a kind has, and what it has room for
-pub record Fitting (kind len : ℕ) : Type 0 where
-  pub least : 42 ≤ len
-  pub numbers : 2 + 8 * (len / 8) ≤ len
-  pub semi : 10 + 8 * semi_slot kind ≤ len
-  pub even : even_count kind len ≤ 8
-  pub odd : odd_count kind ≤ 8
-  pub terms : 42 + 8 * even_count kind len + 8 * odd_count kind ≤ len
-
--- a record at a place of so many bytes, by its own shape, and with its end
-pub record Formed (n at kind len : ℕ) : Type 0 where
-  pub inside : at + 2 + len ≤ n
-  pub fitting : Fitting kind len
-
-pub record Shape (n at kind len : ℕ) : Type 0 where
-  pub own : Formed n at kind len
-  pub end : at + 2 + len ≤ longest
 
 -- every kind has four numbers before its semi-diameter, and a biconic has six
 pub semi_least : (kind : ℕ) → 4 ≤ semi_slot kind
@@ -42,14 +25,6 @@ semi_least kind =
 pub semi_biconic : (kind : ℕ) → kind ≡ 3 → semi_slot kind ≡ 6
 unfolding semi_slot
 semi_biconic kind e = rw e
-
--- a test of a place is one of the room behind it
-pub room_test : (n at k : ℕ) → at ≤ n → leb (2 + k) (n - at) ≡ leb (at + 2 + k) n
-room_test n at k h = by (leb (at + 2 + k) n) refl
-  where
-    by : (t : Bool) → leb (at + 2 + k) n ≡ t → leb (2 + k) (n - at) ≡ t
-    by true e = le-leb (2 + k) (n - at) (omega (arith, leb-true (at + 2 + k) n e))
-    by false e = lt-leb (2 + k) (n - at) (omega (arith, leb-false (at + 2 + k) n e))
 
 -- a length of whole numbers that has room for a kind's
 fitting : (kind len : ℕ) → 42 ≤ len → len % 8 ≡ 2 → 10 + 8 * semi_slot kind ≤ len

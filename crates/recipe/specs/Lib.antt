@@ -1,6 +1,9 @@
 pub mod Endian
+pub mod Fault
 pub mod Record
+pub mod Shape
 pub mod Scan
 pub mod Length
 pub mod Source
+pub mod Told
 pub mod Parts

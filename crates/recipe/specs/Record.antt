@@ -1,6 +1,6 @@
 -- The record at a place of a recipe: its shape, its surface, and why it is refused. Definitions only.
 use Rattle.std.specs.Prelude.{ℕ, ◌+◌, ◌-◌, ◌*◌, ◌/◌, ◌%◌, List, ◌++◌, Bool, not, false, ◌&&◌, ◌||◌, length, replicate}
-use Rattle.std.specs.Prelude.{eqb, leb, Float, if◌then◌else◌}
+use Rattle.std.specs.Prelude.{eqb, leb, Float, if◌then◌else◌, Option, Some, None}
 use Rattle.numbers.specs.Arithmetic.{◌<₆₄◌, ◌≤₆₄◌, 0f}
 use Rattle.surfaces.specs.Types.{polynomial, no_polynomial, every_finite}
 use Rattle.surfaces.specs.declared.types.Coefficients.{Coefficients}
@@ -116,7 +116,21 @@ no_optic = record {
   index = 0f;
 }
 
-unfoldable pub read_at : List ℕ → ℕ → ReadRecord
+-- what a reader says: 1, the next record's place and the surface, or 10
+pub record ReadRow : Type 0 where
+  pub number : ℕ
+  pub next : ℕ
+  pub optic : Optic
+
+abbrev pub no_row : ReadRow
+no_row = record { number = 10; next = 0; optic = no_optic }
+
+unfoldable pub read_at : List ℕ → ℕ → ReadRow
 read_at b at =
     if shaped_at b at then record { number = 1; next = end_at b at; optic = optic_at b at } else
-    record { number = 10; next = 0; optic = no_optic }
+    no_row
+
+-- what is read of a record, as such a row
+abbrev pub told_record : Option ReadRecord → ReadRow
+told_record (Some r) = record { number = 1; next = r.next; optic = r.optic }
+told_record None = no_row

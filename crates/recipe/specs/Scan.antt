@@ -1,9 +1,12 @@
 -- A recipe's surfaces, all or the first ones, or its first refusal and where; what a check says of them. Definitions
 -- only.
 use Rattle.std.specs.Prelude.{ℕ, zero, suc, ◌+◌, Bool, ◌&&◌, List, [], ◌∷◌, length, get_or, eqb, ltb, if◌then◌else◌}
+use Rattle.std.specs.Prelude.{Result, Ok, Err}
 use Rattle.surfaces.specs.Surface.{limit_of}
 use Rattle.recipe.specs.declared.record.Optic.{Optic}
 use Rattle.recipe.specs.declared.scan.Checked.{Checked}
+use Rattle.recipe.specs.declared.scan.Refused.{Refused}
+use Rattle.recipe.specs.Fault.{fault_number}
 use Rattle.recipe.specs.Record.{Read, bad, good, record_at, no_optic}
 
 -- a surface, the place of its first byte, and the next one's
@@ -51,12 +54,21 @@ unfoldable pub sum_limits : List Item → ℕ
 sum_limits [] = 0
 sum_limits (i ∷ l) = limit_of i.optic.surface.kind + sum_limits l
 
--- what a check says: how many surfaces, the sum of their limits, of the wanted one its place and its limit, and where
--- the last one ends
-abbrev pub failed : ℕ → ℕ → Checked
+-- what a check says: 1, or the refusal and its record's place; how many surfaces, the sum of their limits, of the
+-- wanted one its place and its limit, and where the last one ends
+pub record Verdict : Type 0 where
+  pub number : ℕ
+  pub place : ℕ
+  pub count : ℕ
+  pub limits : ℕ
+  pub found : ℕ
+  pub limit : ℕ
+  pub end : ℕ
+
+abbrev pub failed : ℕ → ℕ → Verdict
 failed n p = record { number = n; place = p; count = 0; limits = 0; found = 0; limit = 0; end = 0 }
 
-abbrev pub note : ℕ → Checked → Item → Checked
+abbrev pub note : ℕ → Verdict → Item → Verdict
 note w c i =
     let limit = limit_of i.optic.surface.kind in
     record {
@@ -69,16 +81,32 @@ note w c i =
       end = i.next;
     }
 
-unfoldable pub notes : ℕ → Checked → List Item → Checked
+unfoldable pub notes : ℕ → Verdict → List Item → Verdict
 notes w c [] = c
 notes w c (i ∷ l) = notes w (note w c i) l
 
-abbrev pub nothing : Checked
+abbrev pub nothing : Verdict
 nothing = record { number = 1; place = 0; count = 0; limits = 0; found = 0; limit = 0; end = 0 }
 
-abbrev pub says : ℕ → Checked → Scan → Checked
+abbrev pub says : ℕ → Verdict → Scan → Verdict
 says w c (refused n p) = failed n p
 says w c (items l) = notes w c l
 
-unfoldable pub check_of : List ℕ → ℕ → Bool → ℕ → Checked
+unfoldable pub check_of : List ℕ → ℕ → Bool → ℕ → Verdict
 check_of b most all w = says w nothing (scan all b most 0)
+
+-- what the code's check tells, as such a verdict
+abbrev pub passed : Checked → Verdict
+passed c = record {
+  number = 1;
+  place = 0;
+  count = c.count;
+  limits = c.limits;
+  found = c.found;
+  limit = c.limit;
+  end = c.end;
+}
+
+abbrev pub told_check : Result Checked Refused → Verdict
+told_check (Ok c) = passed c
+told_check (Err e) = failed (fault_number e.fault) e.place

@@ -3,13 +3,16 @@
 #![tactic(auto)]
 
 mod endian;
+mod fault;
+mod kind;
 mod record;
 mod scan;
 mod source;
 
+pub use fault::Fault;
 pub use record::{
     KIND_BICONIC, KIND_CONIC, KIND_EVEN_ASPHERE, KIND_MIRROR, KIND_ODD_ASPHERE, KIND_TOROID,
     MALFORMED, MOST_RECIPE_BYTES, Optic, ReadRecord, read_record,
 };
-pub use scan::{Checked, check};
+pub use scan::{Checked, Refused, check};
 pub use source::{SOURCE_BYTES, Source, read_source};

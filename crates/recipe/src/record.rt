@@ -1,13 +1,20 @@
 // The record at a place of a recipe.
-ghost use Rattle.std.specs.Prelude.{◌≡◌, true, length, ◌+◌, ◌*◌, ◌≤◌};
-ghost use Rattle.recipe.specs.Record.{slot_at, length_fits, formed_at, shaped_at, semi_slot, kind_of, odd_count};
-ghost use Rattle.recipe.specs.Record.{even_count, coefficients_at, optic_at, read_at, no_optic};
+ghost use Rattle.std.specs.Prelude.{◌≡◌, true, false, length, eqb, ◌+◌, ◌*◌, ◌/◌, ◌%◌, ◌≤◌};
+ghost use Rattle.std.specs.Result.{MatchResult};
+ghost use Rattle.surfaces.specs.Types.{every_finite, polynomial};
+ghost use Rattle.recipe.specs.Endian.{numbers_at};
+ghost use Rattle.recipe.specs.Record.{length_at, kind_at, end_at, slot_at, shaped_at, semi_slot, kind_of};
+ghost use Rattle.recipe.specs.Fault.{fault_number};
+ghost use Rattle.recipe.specs.Record.{negative_semi, odd_count, even_count, coefficients_at, optic_at, read_at};
+ghost use Rattle.recipe.specs.Record.{told_record};
+ghost use Rattle.recipe.specs.Shape.{Shape};
 
-use crate::endian::{NUMBER_BYTES, number_at, u16_at};
-use surfaces::{
-    ACCEPTED, Coefficients, Kind, MOST_COEFFICIENTS, Polynomial, Surface, no_coefficients,
-    no_polynomial,
+use crate::endian::{NUMBER_BYTES, number_at, numbers_finite, u16_at};
+use crate::fault::Fault;
+use crate::kind::{
+    LENGTH_EVEN_ASPHERE, even_count, length_fits, negative_semi, odd_count, semi_slot,
 };
+use surfaces::{Coefficients, Kind, MOST_COEFFICIENTS, Polynomial, Surface};
 
 // The table's number for what is no record (SCOPE T1).
 pub const MALFORMED: u8 = 10;
@@ -15,10 +22,11 @@ pub const MALFORMED: u8 = 10;
 // A record is its length, which counts the bytes behind itself, then its kind, then numbers.
 pub(crate) const LENGTH_BYTES: usize = 2;
 
-const KIND_BYTES: usize = 2;
+pub(crate) const KIND_BYTES: usize = 2;
 
-pub(crate) const HEAD_BYTES: usize = LENGTH_BYTES + KIND_BYTES;
+const HEAD_BYTES: usize = LENGTH_BYTES + KIND_BYTES;
 
+// The kinds' numbers are the recipe format's, and the C header names them.
 pub const KIND_CONIC: usize = 1;
 
 pub const KIND_EVEN_ASPHERE: usize = 2;
@@ -32,26 +40,13 @@ pub const KIND_ODD_ASPHERE: usize = 5;
 // A mirror's kind is the surface's and this.
 pub const KIND_MIRROR: usize = 256;
 
-// Each kind's length, an even asphere's without coefficients.
-const LENGTH_CONIC: usize = 42;
-
-const LENGTH_EVEN_ASPHERE: usize = 42;
-
-const LENGTH_BICONIC: usize = 58;
-
-const LENGTH_TOROID: usize = 50;
-
-const LONGEST_EVEN_ASPHERE: usize = LENGTH_EVEN_ASPHERE + NUMBER_BYTES * MOST_COEFFICIENTS;
-
-const LENGTH_ODD_ASPHERE: usize = LONGEST_EVEN_ASPHERE + NUMBER_BYTES * MOST_COEFFICIENTS;
-
 // How many bytes a recipe has at most.
 pub const MOST_RECIPE_BYTES: usize = 65536;
 
-// The slots of its numbers: vertex z, the index after, two to four of the kind's own.
+// The slots of its numbers: vertex z, the index after, two to four of the form's own.
 const VERTEX: usize = 0;
 
-pub(crate) const INDEX: usize = 1;
+const INDEX: usize = 1;
 
 const FIRST: usize = 2;
 
@@ -61,19 +56,10 @@ const THIRD: usize = 4;
 
 const FOURTH: usize = 5;
 
-// The semi-diameter is the last, and coefficients come behind it.
-const SEMI_CONIC: usize = LENGTH_CONIC / NUMBER_BYTES - 1;
-
-const SEMI_BICONIC: usize = LENGTH_BICONIC / NUMBER_BYTES - 1;
-
-const SEMI_TOROID: usize = LENGTH_TOROID / NUMBER_BYTES - 1;
-
-const COEFFICIENTS: usize = LENGTH_EVEN_ASPHERE / NUMBER_BYTES;
-
-// Where they begin, from the record's place on, those of even powers first.
+// Where coefficients begin, from the record's place on, those of even powers first.
 const COEFFICIENTS_PLACE: usize = LENGTH_BYTES + LENGTH_EVEN_ASPHERE;
 
-// A surface, and the index behind it, which a mirror does not use.
+// A surface, and the index behind it: a mirror has one too, as its record does, though a trace does not use it.
 #[derive(Clone, Copy)]
 pub struct Optic {
     pub surface: Surface,
@@ -81,15 +67,15 @@ pub struct Optic {
     pub index: f64,
 }
 
-// 1, the next record's place and the surface, or 10.
+// A surface, and the next record's place.
 #[derive(Clone, Copy)]
 pub struct ReadRecord {
-    pub number: u8,
     pub next: usize,
     pub optic: Optic,
 }
 
 // The number of a slot behind length and kind.
+#[tactic(auto, unfolding(crate::specs::Record::slot_at))]
 pub(crate) fn slot(s: &[u8], at: usize, i: usize) -> f64
     requires { at + 12 + 8 * i ≤ length s.now }
     ensures { result ≡ slot_at s.now at i }
@@ -97,192 +83,183 @@ pub(crate) fn slot(s: &[u8], at: usize, i: usize) -> f64
     number_at(s, at + HEAD_BYTES + NUMBER_BYTES * i)
 }
 
-fn length_fits(kind: usize, len: usize) -> bool
-    ensures { result ≡ length_fits kind len }
-{
-    if kind == KIND_CONIC {
-        return len == LENGTH_CONIC;
-    }
-    if kind == KIND_EVEN_ASPHERE {
-        return (LENGTH_EVEN_ASPHERE <= len)
-            & (len <= LONGEST_EVEN_ASPHERE)
-            & (len % NUMBER_BYTES == KIND_BYTES);
-    }
-    if kind == KIND_BICONIC {
-        return len == LENGTH_BICONIC;
-    }
-    ((kind == KIND_TOROID) & (len == LENGTH_TOROID))
-        | ((kind == KIND_ODD_ASPHERE) & (len == LENGTH_ODD_ASPHERE))
-}
-
-// Whether a record is whole, and its length one that its kind has.
-fn is_formed(s: &[u8], at: usize) -> bool
-    ensures { result ≡ formed_at s.now at }
-{
-    if s.len() < at {
-        return false;
-    }
-    let room = s.len() - at;
-    if room < HEAD_BYTES {
-        return false;
-    }
-    let len = u16_at(s, at);
-    let kind = u16_at(s, at + LENGTH_BYTES);
-    (LENGTH_BYTES + len <= room) & (kind / KIND_MIRROR <= 1) & length_fits(kind % KIND_MIRROR, len)
-}
-
-// And whether it ends within the longest recipe.
-pub(crate) fn is_shaped(s: &[u8], at: usize) -> bool
-    ensures { result ≡ shaped_at s.now at }
-{
-    if is_formed(s, at) {
-        at + LENGTH_BYTES + u16_at(s, at) <= MOST_RECIPE_BYTES
-    } else {
-        false
-    }
-}
-
-pub(crate) fn semi_slot(kind: usize) -> usize
-    ensures { result ≡ semi_slot kind }
-{
-    if kind == KIND_BICONIC {
-        return SEMI_BICONIC;
-    }
-    if kind == KIND_TOROID {
-        SEMI_TOROID
-    } else {
-        SEMI_CONIC
-    }
-}
-
-pub(crate) fn kind_at(s: &[u8], at: usize, kind: usize) -> Kind
-    requires { at + 12 + 8 * semi_slot kind ≤ length s.now }
-    ensures { result ≡ kind_of kind (slot_at s.now at) }
-{
-    let a = slot(s, at, FIRST);
-    let b = slot(s, at, SECOND);
-    if kind == KIND_CONIC {
-        return Kind::Conic { c: a, k: b };
-    }
-    if (kind == KIND_EVEN_ASPHERE) | (kind == KIND_ODD_ASPHERE) {
-        return Kind::Asphere {
-            c: a,
-            k: b,
-            odd: kind == KIND_ODD_ASPHERE,
-        };
-    }
-    let c = slot(s, at, THIRD);
-    if kind == KIND_BICONIC {
-        return Kind::Biconic {
-            cx: a,
-            kx: b,
-            cy: c,
-            ky: slot(s, at, FOURTH),
-        };
-    }
-    Kind::Toroid {
-        rx: a,
-        cy: b,
-        ky: c,
-    }
-}
-
-fn even_count(kind: usize, len: usize) -> usize
-    requires { 42 ≤ len }
-    ensures { result ≡ even_count kind len }
-{
-    if kind == KIND_EVEN_ASPHERE {
-        return len / NUMBER_BYTES - COEFFICIENTS;
-    }
-    if kind == KIND_ODD_ASPHERE {
-        MOST_COEFFICIENTS
-    } else {
-        0
-    }
-}
-
+#[tactic(auto, using(crate::proofs::Numbers::coefficients))]
 fn coefficients_at(s: &[u8], at: usize, count: usize) -> Coefficients
     requires { (count ≤ 8) × (at + 8 * count ≤ length s.now) }
     ensures { result ≡ coefficients_at s.now at count }
 {
     let mut values = [0.0f64; MOST_COEFFICIENTS];
-    let mut i = 0usize;
-    while i < count {
+    for i in 0..count {
         values[i] = number_at(s, at + NUMBER_BYTES * i);
-        i += 1;
     }
     Coefficients { count, values }
 }
 
-// Of an odd asphere; the other kinds have none.
-fn odd_coefficients_at(s: &[u8], at: usize, kind: usize) -> Coefficients
-    requires { at + 8 * odd_count kind ≤ length s.now }
-    ensures { result ≡ coefficients_at s.now at (odd_count kind) }
-{
-    if kind == KIND_ODD_ASPHERE {
-        coefficients_at(s, at, MOST_COEFFICIENTS)
-    } else {
-        no_coefficients()
-    }
+// A record that is whole, of a length that its kind has, and ends within the longest recipe.
+#[derive(Clone, Copy)]
+pub(crate) struct Record<'a> {
+    bytes: &'a [u8],
+    at: usize,
+    // how many bytes follow its length
+    len: usize,
+    // of the surface, mirror or not: a number, for the reason that stands at `length_fits`
+    kind: usize,
+    mirror: bool,
+    ghost shaped: { shaped_at bytes.now at ≡ true },
+    ghost length_is: { len ≡ length_at bytes.now at },
+    ghost kind_is: { kind ≡ kind_at bytes.now at % 256 },
+    ghost mirror_is: { mirror ≡ eqb (kind_at bytes.now at / 256) 1 },
+    ghost places: { Shape (length bytes.now) at kind len },
 }
 
-fn optic_at(s: &[u8], at: usize) -> Optic
-    requires { shaped_at s.now at ≡ true }
-    ensures { result ≡ optic_at s.now at }
-{
-    let len = u16_at(s, at);
-    let whole = u16_at(s, at + LENGTH_BYTES);
-    let kind = whole % KIND_MIRROR;
-    let even = even_count(kind, len);
-    let first = at + COEFFICIENTS_PLACE;
-    let polynomial = Polynomial {
-        even: coefficients_at(s, first, even),
-        odd: odd_coefficients_at(s, first + NUMBER_BYTES * even, kind),
-    };
-    let surface = Surface {
-        vertex: slot(s, at, VERTEX),
-        semi: slot(s, at, semi_slot(kind)),
-        kind: kind_at(s, at, kind),
-        polynomial,
-    };
-    Optic {
-        surface,
-        mirror: whole / KIND_MIRROR == 1,
-        index: slot(s, at, INDEX),
+impl<'a> Record<'a> {
+    pub(crate) fn read(bytes: &'a [u8], at: usize) -> Result<Record<'a>, Fault>
+        ensures { MatchResult result
+            (λ r. (r.bytes.now ≡ bytes.now) × (r.at ≡ at))
+            (λ e. (e ≡ Fault.Malformed) × (shaped_at bytes.now at ≡ false)) }
+    {
+        if bytes.len().saturating_sub(at) < HEAD_BYTES {
+            return Err(Fault::Malformed);
+        }
+        let len = u16_at(bytes, at);
+        let whole = u16_at(bytes, at + LENGTH_BYTES);
+        let kind = whole % KIND_MIRROR;
+        let mirror = whole / KIND_MIRROR;
+        let end = at + LENGTH_BYTES + len;
+        let formed = (end <= bytes.len()) & (mirror <= 1) & length_fits(kind, len);
+        if !(formed & (end <= MOST_RECIPE_BYTES)) {
+            return Err(Fault::Malformed);
+        }
+        Ok(Record {
+            bytes,
+            at,
+            len,
+            kind,
+            mirror: mirror == 1,
+        })
     }
-}
 
-fn no_optic() -> Optic
-    ensures { result ≡ no_optic }
-{
-    let surface = Surface {
-        vertex: 0.0,
-        semi: 0.0,
-        kind: Kind::Conic { c: 0.0, k: 0.0 },
-        polynomial: no_polynomial(),
-    };
-    Optic {
-        surface,
-        mirror: false,
-        index: 0.0,
+    // Where the next one begins.
+    pub(crate) fn end(self) -> usize
+        ensures { let r = self.entry in result ≡ end_at r.bytes.now r.at }
+    {
+        self.at + LENGTH_BYTES + self.len
+    }
+
+    fn slot(self, i: usize) -> f64
+        requires { i ≤ semi_slot self.kind }
+        ensures { let r = self.entry in result ≡ slot_at r.bytes.now r.at i }
+    {
+        slot(self.bytes, self.at, i)
+    }
+
+    pub(crate) fn is_finite(self) -> bool
+        ensures { let r = self.entry in
+            result ≡ every_finite (numbers_at r.bytes.now (r.at + 4) (length_at r.bytes.now r.at / 8)) }
+    {
+        numbers_finite(self.bytes, self.at + HEAD_BYTES, self.len / NUMBER_BYTES)
+    }
+
+    pub(crate) fn semi(self) -> f64
+        ensures { let r = self.entry in
+            result ≡ slot_at r.bytes.now r.at (semi_slot (kind_at r.bytes.now r.at % 256)) }
+    {
+        self.slot(semi_slot(self.kind))
+    }
+
+    #[tactic(auto, unfolding(crate::specs::Record::semi_slot))]
+    pub(crate) fn index(self) -> f64
+        ensures { let r = self.entry in result ≡ slot_at r.bytes.now r.at 1 }
+    {
+        self.slot(INDEX)
+    }
+
+    // What a negative semi-diameter is refused with.
+    pub(crate) fn negative_semi(self) -> Fault
+        ensures { let r = self.entry in fault_number result ≡ negative_semi (kind_at r.bytes.now r.at % 256) }
+    {
+        negative_semi(self.kind)
+    }
+
+    #[tactic(auto, unfolding(crate::specs::Record::kind_of, crate::specs::Record::semi_slot))]
+    pub(crate) fn kind(self) -> Kind
+        ensures { let r = self.entry in
+            result ≡ kind_of (kind_at r.bytes.now r.at % 256) (slot_at r.bytes.now r.at) }
+    {
+        let kind = self.kind;
+        let a = self.slot(FIRST);
+        let b = self.slot(SECOND);
+        if kind == KIND_CONIC {
+            return Kind::Conic { c: a, k: b };
+        }
+        if (kind == KIND_EVEN_ASPHERE) | (kind == KIND_ODD_ASPHERE) {
+            return Kind::Asphere {
+                c: a,
+                k: b,
+                odd: kind == KIND_ODD_ASPHERE,
+            };
+        }
+        let c = self.slot(THIRD);
+        if kind == KIND_BICONIC {
+            return Kind::Biconic {
+                cx: a,
+                kx: b,
+                cy: c,
+                ky: self.slot(FOURTH),
+            };
+        }
+        Kind::Toroid {
+            rx: a,
+            cy: b,
+            ky: c,
+        }
+    }
+
+    fn polynomial(self) -> Polynomial
+        ensures { let r = self.entry in
+            let even = even_count r.kind r.len in
+            let odd = odd_count r.kind in
+            result ≡ polynomial
+            (coefficients_at r.bytes.now (r.at + 44) even)
+            (coefficients_at r.bytes.now (r.at + 44 + 8 * even) odd) }
+    {
+        let first = self.at + COEFFICIENTS_PLACE;
+        let even = even_count(self.kind, self.len);
+        Polynomial {
+            even: coefficients_at(self.bytes, first, even),
+            odd: coefficients_at(
+                self.bytes,
+                first + NUMBER_BYTES * even,
+                odd_count(self.kind),
+            ),
+        }
+    }
+
+    #[tactic(auto, unfolding(crate::specs::Record::optic_at))]
+    fn optic(self) -> Optic
+        ensures { let r = self.entry in result ≡ optic_at r.bytes.now r.at }
+    {
+        Optic {
+            surface: Surface {
+                vertex: self.slot(VERTEX),
+                semi: self.semi(),
+                kind: self.kind(),
+                polynomial: self.polynomial(),
+            },
+            mirror: self.mirror,
+            index: self.index(),
+        }
     }
 }
 
 // The record at a place, by its shape alone: whether its numbers are good is for `check`.
-pub fn read_record(s: &[u8], at: usize) -> ReadRecord
-    ensures { result ≡ read_at s.now at }
+#[tactic(auto, unfolding(crate::specs::Record::read_at))]
+pub fn read_record(s: &[u8], at: usize) -> Option<ReadRecord>
+    ensures { told_record result ≡ read_at s.now at }
 {
-    if is_shaped(s, at) {
-        let len = u16_at(s, at);
-        return ReadRecord {
-            number: ACCEPTED,
-            next: at + LENGTH_BYTES + len,
-            optic: optic_at(s, at),
-        };
-    }
-    ReadRecord {
-        number: MALFORMED,
-        next: 0,
-        optic: no_optic(),
-    }
+    let record = Record::read(s, at).ok()?;
+    Some(ReadRecord {
+        next: record.end(),
+        optic: record.optic(),
+    })
 }

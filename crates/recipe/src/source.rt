@@ -1,10 +1,10 @@
 // The record that stands first in a program's file.
 ghost use Rattle.std.specs.Prelude.{◌≡◌, length, ◌+◌, ◌*◌, ◌≤◌};
-ghost use Rattle.recipe.specs.Source.{is_source, vector_at, source_of};
+ghost use Rattle.recipe.specs.Source.{is_source, vector_at, source_of, told_source};
 
 use crate::endian::u16_at;
-use crate::record::{LENGTH_BYTES, MALFORMED, slot};
-use surfaces::{ACCEPTED, Ray, Vec3, no_ray};
+use crate::record::{LENGTH_BYTES, slot};
+use surfaces::{Ray, Vec3};
 
 const KIND_SOURCE: usize = 0;
 
@@ -20,14 +20,14 @@ const DIRECTION: usize = 3;
 
 const INDEX: usize = 6;
 
-// 1, the ray and the index that it starts in, or 10.
+// A ray, and the index that it starts in.
 #[derive(Clone, Copy)]
 pub struct Source {
-    pub number: u8,
     pub ray: Ray,
     pub index: f64,
 }
 
+#[tactic(auto, unfolding(crate::specs::Source::is_source))]
 fn is_source(file: &[u8]) -> bool
     ensures { result ≡ is_source file.now }
 {
@@ -38,6 +38,7 @@ fn is_source(file: &[u8]) -> bool
 }
 
 // Three slots from one on.
+#[tactic(auto, unfolding(crate::specs::Source::vector_at))]
 fn vector(file: &[u8], i: usize) -> Vec3
     requires { 28 + 8 * i ≤ length file.now }
     ensures { result ≡ vector_at file.now i }
@@ -49,23 +50,19 @@ fn vector(file: &[u8], i: usize) -> Vec3
     }
 }
 
-pub fn read_source(file: &[u8]) -> Source
-    ensures { result ≡ source_of file.now }
+#[tactic(auto, using(crate::proofs::Shapes::source_room), unfolding(crate::specs::Source::source_of))]
+pub fn read_source(file: &[u8]) -> Option<Source>
+    ensures { told_source result ≡ source_of file.now }
 {
-    if is_source(file) {
-        let ray = Ray {
-            origin: vector(file, ORIGIN),
-            direction: vector(file, DIRECTION),
-        };
-        return Source {
-            number: ACCEPTED,
-            ray,
-            index: slot(file, 0, INDEX),
-        };
+    if !is_source(file) {
+        return None;
     }
-    Source {
-        number: MALFORMED,
-        ray: no_ray(),
-        index: 0.0,
-    }
+    let ray = Ray {
+        origin: vector(file, ORIGIN),
+        direction: vector(file, DIRECTION),
+    };
+    Some(Source {
+        ray,
+        index: slot(file, 0, INDEX),
+    })
 }

@@ -1,6 +1,6 @@
 // What a line asks for.
-use crate::operands::{is_end, next_count, next_number, next_ray};
-use lines::{digit_value, next_word, part};
+use crate::operands::{next_count, next_number, next_ray};
+use lines::{Words, digit_value};
 use surfaces::Ray;
 use trace::{Beam, State};
 
@@ -13,7 +13,7 @@ pub type Bytes = [u8; LONGEST];
 
 #[derive(Drop)]
 pub enum Command {
-    // So many bytes, which stand beside the command.
+    // So many bytes, which stand beside the command, since there is no heap.
     Recipe(usize),
     Room(usize),
     Start {
@@ -28,131 +28,87 @@ pub enum Command {
         ray: Ray,
         index: f64,
     },
-    Unreadable,
-    // There are no more lines.
-    End,
 }
 
 // A recipe's bytes are put into `given`.
-pub(crate) fn read_command(line: &[u8], given: &mut Bytes) -> Command {
-    let word = next_word(line, 0);
-    let name = part(line, word.start, word.end);
-    match name {
-        b"recipe" => read_recipe(line, word.end, given),
-        b"room" => read_room(line, word.end),
-        b"start" => read_start(line, word.end),
-        b"state" => read_state(line, word.end),
-        b"continue" => read_continue(line, word.end),
-        b"reach" => read_reach(line, word.end),
-        _ => Command::Unreadable,
-    }
+pub(crate) fn read_command(line: &[u8], given: &mut Bytes) -> Option<Command> {
+    let mut words = Words(line);
+    let command = match words.next()? {
+        b"recipe" => read_recipe(&mut words, given)?,
+        b"room" => read_room(&mut words)?,
+        b"start" => read_start(&mut words)?,
+        b"state" => read_state(&mut words)?,
+        b"continue" => read_continue(&mut words)?,
+        b"reach" => read_reach(&mut words)?,
+        _ => return None,
+    };
+    words.next().is_none().then_some(command)
 }
 
 // An empty recipe has no word.
-fn read_recipe(line: &[u8], at: usize, given: &mut Bytes) -> Command {
-    let word = next_word(line, at);
-    if is_end(line, word.end) {
-        recipe_of(part(line, word.start, word.end), given)
-    } else {
-        Command::Unreadable
+fn read_recipe(words: &mut Words<'_>, given: &mut Bytes) -> Option<Command> {
+    let (pairs, rest) = words.next().unwrap_or_default().as_chunks();
+    if !rest.is_empty() {
+        return None;
     }
+    let n = pairs.len();
+    for (byte, pair) in given.get_mut(..n)?.iter_mut().zip(pairs) {
+        *byte = byte_of(pair)?;
+    }
+    Some(Command::Recipe(n))
 }
 
-fn recipe_of(digits: &[u8], given: &mut Bytes) -> Command {
-    let n = digits.len() / 2;
-    if digits.len() % 2 != 0 {
-        return Command::Unreadable;
-    }
-    if n > LONGEST {
-        return Command::Unreadable;
-    }
-    for i in 0..n {
-        let high = digit_value(digits[2 * i]);
-        let low = digit_value(digits[2 * i + 1]);
-        if high > 15 {
-            return Command::Unreadable;
-        }
-        if low > 15 {
-            return Command::Unreadable;
-        }
-        given[i] = (high * 16 + low) as u8;
-    }
-    Command::Recipe(n)
+// Here and below what fits its type by the bound that it was read with is cast: `try_from` would test it again.
+fn byte_of(digits: &[u8; 2]) -> Option<u8> {
+    let high = digit_value(digits[0])?;
+    let low = digit_value(digits[1])?;
+    Some((high * 16 + low) as u8)
 }
 
-fn read_room(line: &[u8], at: usize) -> Command {
-    let n = next_count(line, at, WIDEST as u64);
-    if is_end(line, n.next) {
-        Command::Room(n.value as usize)
-    } else {
-        Command::Unreadable
-    }
+fn read_room(words: &mut Words<'_>) -> Option<Command> {
+    let n = next_count(words, WIDEST as u64)?;
+    Some(Command::Room(n as usize))
 }
 
-fn read_start(line: &[u8], at: usize) -> Command {
-    let from = next_ray(line, at);
-    let index = next_number(line, from.next);
-    let ray = from.value;
-    if is_end(line, index.next) {
-        Command::Start {
-            ray,
-            index: index.value,
-        }
-    } else {
-        Command::Unreadable
-    }
+fn read_start(words: &mut Words<'_>) -> Option<Command> {
+    let ray = next_ray(words)?;
+    let index = next_number(words)?;
+    Some(Command::Start { ray, index })
 }
 
-fn read_state(line: &[u8], at: usize) -> Command {
-    let number = next_count(line, at, u64::MAX);
-    let place = next_count(line, number.next, u64::MAX);
-    let passes = next_count(line, place.next, 65535);
-    let t = next_number(line, passes.next);
-    let from = next_ray(line, t.next);
-    let index = next_number(line, from.next);
-    let path = next_number(line, index.next);
-    let steps = next_count(line, path.next, u64::MAX);
-    let outcome = next_count(line, steps.next, 255);
-    if !is_end(line, outcome.next) {
-        return Command::Unreadable;
-    }
-    let ray = from.value;
-    Command::State(State {
-        number: number.value as usize,
-        place: place.value as usize,
-        passes: passes.value as u16,
-        t: t.value,
-        beam: Beam {
-            ray,
-            index: index.value,
-            path: path.value,
-        },
-        steps: steps.value as usize,
-        outcome: outcome.value as u8,
+fn read_state(words: &mut Words<'_>) -> Option<Command> {
+    let number = next_count(words, u64::MAX)?;
+    let place = next_count(words, u64::MAX)?;
+    let passes = next_count(words, u64::from(u16::MAX))?;
+    let t = next_number(words)?;
+    let ray = next_ray(words)?;
+    let index = next_number(words)?;
+    let path = next_number(words)?;
+    let steps = next_count(words, u64::MAX)?;
+    let outcome = next_count(words, u64::from(u8::MAX))?;
+    Some(Command::State(State {
+        number: number as usize,
+        place: place as usize,
+        passes: passes as u16,
+        t,
+        beam: Beam { ray, index, path },
+        steps: steps as usize,
+        outcome: outcome as u8,
+    }))
+}
+
+fn read_continue(words: &mut Words<'_>) -> Option<Command> {
+    let n = next_count(words, u64::from(u16::MAX))?;
+    Some(Command::Continue(n as u16))
+}
+
+fn read_reach(words: &mut Words<'_>) -> Option<Command> {
+    let surface = next_count(words, u64::MAX)?;
+    let ray = next_ray(words)?;
+    let index = next_number(words)?;
+    Some(Command::Reach {
+        surface: surface as usize,
+        ray,
+        index,
     })
-}
-
-fn read_continue(line: &[u8], at: usize) -> Command {
-    let n = next_count(line, at, 65535);
-    if is_end(line, n.next) {
-        Command::Continue(n.value as u16)
-    } else {
-        Command::Unreadable
-    }
-}
-
-fn read_reach(line: &[u8], at: usize) -> Command {
-    let n = next_count(line, at, u64::MAX);
-    let from = next_ray(line, n.next);
-    let index = next_number(line, from.next);
-    let ray = from.value;
-    if is_end(line, index.next) {
-        Command::Reach {
-            surface: n.value as usize,
-            ray,
-            index: index.value,
-        }
-    } else {
-        Command::Unreadable
-    }
 }

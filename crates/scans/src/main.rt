@@ -9,61 +9,37 @@ mod operands;
 mod reply;
 mod station;
 
-use command::{Bytes, Command, LONGEST, WIDEST, read_command};
-use lines::{LONGEST_LINE, ReadLine, Unread, next_line, part};
-use station::{new_station, obey};
-use std::io::{Read, Write};
+use command::{Bytes, LONGEST, read_command};
+use lines::{LONGEST_LINE, Lines};
+use reply::print_unreadable;
+use station::Station;
+use std::io::{Read, Result, Write};
 
 // The longest line that is read, and its line feed.
 const BUFFER: usize = LONGEST_LINE + 1;
 
-type Buffer = [u8; BUFFER];
-
-type Results = [f64; WIDEST];
-
-fn command_of(line: ReadLine, buffer: &[u8], given: &mut Bytes) -> Command {
-    match line {
-        ReadLine::Given { start, end } => read_command(part(buffer, start, end), given),
-        ReadLine::TooLong => Command::Unreadable,
-        ReadLine::End => Command::End,
-    }
-}
-
 // Nothing says that the input ends, and a proved loop has to: no run uses up so many turns.
 fn obey_all<R: Read, W: Write>(
-    input: &mut R,
+    lines: &mut Lines<R, BUFFER>,
     output: &mut W,
-    buffer: &mut Buffer,
     given: &mut Bytes,
-    recipe: &mut Bytes,
-    results: &mut Results,
-) {
-    let mut unread = Unread { from: 0, to: 0 };
-    let mut station = new_station();
+) -> Result<()> {
+    let mut station = Station::new();
     for _ in 0..u64::MAX {
-        let next = next_line(input, buffer, unread);
-        let line = next.line;
-        let command = command_of(line, buffer, given);
-        let turn = obey(output, command, station, given, recipe, results);
-        if !turn.going {
-            return;
+        let Some(line) = lines.next_line() else {
+            break;
+        };
+        match line.ok().and_then(|line| read_command(line, given)) {
+            Some(command) => station.obey(output, command, given)?,
+            None => print_unreadable(output)?,
         }
-        station = turn.station;
-        unread = next.unread;
     }
+    Ok(())
 }
 
 fn main(rt: HostRuntime) {
-    let mut buffer = [0u8; BUFFER];
+    let mut lines = Lines::new(rt.stdin());
     let mut given = [0u8; LONGEST];
-    let mut recipe = [0u8; LONGEST];
-    let mut results = [1.0; WIDEST];
-    obey_all(
-        &mut rt.stdin(),
-        &mut rt.stdout(),
-        &mut buffer,
-        &mut given,
-        &mut recipe,
-        &mut results,
-    );
+    // a writing that fails ends the run, as the input's end does
+    let _ = obey_all(&mut lines, &mut rt.stdout(), &mut given);
 }

@@ -1,7 +1,8 @@
-// What is printed. Each function tells whether that succeeded.
+// What is printed. usize and u64 are one size here, and std has no `From` between them, so that places are cast.
 use lines::{COUNT_BYTES, FLOAT_BYTES, bits_of, put_count, put_floats, put_word, write_line};
-use std::io::Write;
-use trace::{Answer, RECORD_NUMBERS, Reached, State};
+use std::io::{self, Write};
+use surfaces::ACCEPTED;
+use trace::{RECORD_NUMBERS, Refused, State};
 
 // The most bytes of each line: its word and a space, then counts and numbers.
 const ANSWER_BYTES: usize = 9 + 2 * COUNT_BYTES;
@@ -12,7 +13,7 @@ const RECORD_BYTES: usize = 7 + COUNT_BYTES + RECORD_NUMBERS * FLOAT_BYTES;
 
 const TAIL_BYTES: usize = 5 + (RECORD_NUMBERS - 1) * FLOAT_BYTES;
 
-pub(crate) fn print_unreadable<W: Write>(output: &mut W) -> bool {
+pub(crate) fn print_unreadable<W: Write>(output: &mut W) -> io::Result<()> {
     let mut line = [0u8; 2];
     let end = put_word(&mut line, 0, b"?");
     write_line(output, &mut line, end)
@@ -21,66 +22,68 @@ pub(crate) fn print_unreadable<W: Write>(output: &mut W) -> bool {
 pub(crate) fn print_reply<W: Write>(
     output: &mut W,
     what: &[u8],
-    a: Answer,
+    answer: Result<State, Refused>,
+    state: State,
     results: &[f64],
-) -> bool {
-    let state = a.state;
-    if !print_answer(output, what, a.number, a.place) {
-        return false;
-    }
-    if !print_state(output, state) {
-        return false;
-    }
+) -> io::Result<()> {
+    print_answer(output, what, answer.err())?;
+    print_state(output, state)?;
     print_results(output, results)
 }
 
-pub(crate) fn print_reach<W: Write>(output: &mut W, surface: usize, r: Reached) -> bool {
-    let row = r.row;
-    if !print_answer(output, b"reach", r.number, r.place) {
-        return false;
+// A refused one has no record.
+pub(crate) fn print_reach<W: Write>(
+    output: &mut W,
+    surface: usize,
+    answer: Result<[f64; RECORD_NUMBERS], Refused>,
+) -> io::Result<()> {
+    print_answer(output, b"reach", answer.err())?;
+    match answer {
+        Ok(row) => print_record(output, surface, &row),
+        Err(_) => Ok(()),
     }
-    print_record(output, surface, &row)
 }
 
-fn print_answer<W: Write>(output: &mut W, what: &[u8], number: u8, place: usize) -> bool {
+// 1, or the refusal and its place, by numbers, which are what is printed.
+fn print_answer<W: Write>(output: &mut W, what: &[u8], refused: Option<Refused>) -> io::Result<()> {
+    let (number, place) = match refused {
+        Some(e) => (e.why.number(), e.place),
+        None => (ACCEPTED, 0),
+    };
     let mut line = [0u8; ANSWER_BYTES];
     let mut end = put_word(&mut line, 0, what);
-    end = put_count(&mut line, end, number as u64);
+    end = put_count(&mut line, end, u64::from(number));
     end = put_count(&mut line, end, place as u64);
     write_line(output, &mut line, end)
 }
 
-fn print_state<W: Write>(output: &mut W, s: State) -> bool {
-    let beam = s.beam;
-    let ray = beam.ray;
-    let o = ray.origin;
-    let d = ray.direction;
-    let values = [s.t, o.x, o.y, o.z, d.x, d.y, d.z, beam.index, beam.path];
+fn print_state<W: Write>(output: &mut W, s: State) -> io::Result<()> {
+    let b = s.beam;
+    let o = b.ray.origin;
+    let d = b.ray.direction;
+    let values = [s.t, o.x, o.y, o.z, d.x, d.y, d.z, b.index, b.path];
     let mut line = [0u8; STATE_BYTES];
     let mut end = put_word(&mut line, 0, b"state");
     end = put_count(&mut line, end, s.number as u64);
     end = put_count(&mut line, end, s.place as u64);
-    end = put_count(&mut line, end, s.passes as u64);
+    end = put_count(&mut line, end, u64::from(s.passes));
     end = put_floats(&mut line, end, &values);
     end = put_count(&mut line, end, s.steps as u64);
-    end = put_count(&mut line, end, s.outcome as u64);
+    end = put_count(&mut line, end, u64::from(s.outcome));
     write_line(output, &mut line, end)
 }
 
-fn print_results<W: Write>(output: &mut W, results: &[f64]) -> bool {
-    let n = results.len() / RECORD_NUMBERS;
-    for i in 0..n {
-        let at = i * RECORD_NUMBERS;
-        if !print_record(output, i, &results[at..at + RECORD_NUMBERS]) {
-            return false;
-        }
+fn print_results<W: Write>(output: &mut W, results: &[f64]) -> io::Result<()> {
+    let (rows, tail) = results.as_chunks::<RECORD_NUMBERS>();
+    for (number, row) in rows.iter().enumerate() {
+        print_record(output, number, row)?;
     }
-    print_tail(output, &results[n * RECORD_NUMBERS..])
+    print_tail(output, tail)
 }
 
-fn print_record<W: Write>(output: &mut W, number: usize, row: &[f64]) -> bool {
+fn print_record<W: Write>(output: &mut W, number: usize, row: &[f64]) -> io::Result<()> {
     if is_blank(row) {
-        return true;
+        return Ok(());
     }
     let mut line = [0u8; RECORD_BYTES];
     let mut end = put_word(&mut line, 0, b"record");
@@ -89,9 +92,10 @@ fn print_record<W: Write>(output: &mut W, number: usize, row: &[f64]) -> bool {
     write_line(output, &mut line, end)
 }
 
-fn print_tail<W: Write>(output: &mut W, rest: &[f64]) -> bool {
+// Apart from a record's line, which has a number more: one function for both would take a flag.
+fn print_tail<W: Write>(output: &mut W, rest: &[f64]) -> io::Result<()> {
     if is_blank(rest) {
-        return true;
+        return Ok(());
     }
     let mut line = [0u8; TAIL_BYTES];
     let mut end = put_word(&mut line, 0, b"tail");
@@ -101,10 +105,5 @@ fn print_tail<W: Write>(output: &mut W, rest: &[f64]) -> bool {
 
 // Whether each pattern is +0.0's.
 fn is_blank(values: &[f64]) -> bool {
-    for i in 0..values.len() {
-        if bits_of(values[i]) != 0 {
-            return false;
-        }
-    }
-    true
+    values.iter().all(|&x| bits_of(x) == 0)
 }

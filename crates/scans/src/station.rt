@@ -1,157 +1,86 @@
 // What lasts from line to line, and what a command makes of it.
-use crate::command::{Bytes, Command};
-use crate::reply::{print_reach, print_reply, print_unreadable};
+use crate::command::{Bytes, Command, LONGEST, WIDEST};
+use crate::reply::{print_reach, print_reply};
 use lines::part;
-use std::io::Write;
+use std::io::{Result, Write};
 use surfaces::{Ray, no_ray};
-use trace::{Beam, MOST_ROOM, RUNNING, State, reach, start};
+use trace::{MOST_ROOM, RUNNING, State, reach, start};
 
-// How many bytes of the recipe and numbers of the results are in use, and the last state.
+// Recipe and results in fixed arrays, since there is no heap, how much of each is in use, and the last state.
 #[derive(Drop)]
-pub struct Station {
-    pub length: usize,
-    pub room: usize,
-    pub state: State,
+pub(crate) struct Station {
+    recipe: Bytes,
+    length: usize,
+    results: [f64; WIDEST],
+    room: usize,
+    state: State,
 }
 
-// The station after a command, and whether to go on.
-#[derive(Drop)]
-pub struct Turn {
-    pub station: Station,
-    pub going: bool,
-}
-
-// Without a recipe, with room for the most records.
-pub(crate) fn new_station() -> Station {
-    let beam = Beam {
-        ray: no_ray(),
-        index: 0.0,
-        path: 0.0,
-    };
-    let state = State {
-        number: 0,
-        place: 0,
-        passes: 0,
-        t: 0.0,
-        beam,
-        steps: 0,
-        outcome: RUNNING,
-    };
-    Station {
-        length: 0,
-        room: MOST_ROOM,
-        state,
-    }
-}
-
-// The bytes of a new recipe begin `given`.
-pub(crate) fn obey<W: Write>(
-    output: &mut W,
-    c: Command,
-    s: Station,
-    given: &Bytes,
-    recipe: &mut Bytes,
-    results: &mut [f64],
-) -> Turn {
-    let length = s.length;
-    let room = s.room;
-    let state = s.state;
-    match c {
-        Command::Recipe(n) => {
-            *recipe = *given;
-            after(n, room, state, true)
+impl Station {
+    // Without a recipe, with room for the most records.
+    pub(crate) fn new() -> Station {
+        Station {
+            recipe: [0; LONGEST],
+            length: 0,
+            results: [1.0; WIDEST],
+            room: MOST_ROOM,
+            state: State::first(no_ray(), 0.0, RUNNING),
         }
-        Command::Room(n) => {
-            fill(first(results, n));
-            after(length, n, state, true)
-        }
-        Command::Start { ray, index } => begin(
-            output,
-            s,
-            part(recipe, 0, length),
-            ray,
-            index,
-            first(results, room),
-        ),
-        Command::State(next) => after(length, room, next, true),
-        Command::Continue(n) => go_on(output, s, part(recipe, 0, length), n, first(results, room)),
-        Command::Reach {
-            surface,
-            ray,
-            index,
-        } => after(
-            length,
-            room,
-            state,
-            tell(output, part(recipe, 0, length), surface, ray, index),
-        ),
-        Command::Unreadable => after(length, room, state, print_unreadable(output)),
-        Command::End => after(length, room, state, false),
     }
-}
 
-fn begin<W: Write>(
-    output: &mut W,
-    s: Station,
-    recipe: &[u8],
-    ray: Ray,
-    index: f64,
-    results: &mut [f64],
-) -> Turn {
-    let a = start(recipe, ray, index, results);
-    let state = a.state;
-    after(
-        s.length,
-        s.room,
-        state,
-        print_reply(output, b"start", a, results),
-    )
-}
+    // The bytes of a new recipe begin `given`.
+    pub(crate) fn obey<W: Write>(
+        &mut self,
+        output: &mut W,
+        c: Command,
+        given: &Bytes,
+    ) -> Result<()> {
+        match c {
+            Command::Recipe(n) => {
+                self.recipe = *given;
+                self.length = n;
+            }
+            Command::Room(n) => {
+                self.room = n;
+                first(&mut self.results, n).fill(1.0);
+            }
+            Command::Start { ray, index } => self.begin(output, ray, index)?,
+            Command::State(next) => self.state = next,
+            Command::Continue(n) => self.go_on(output, n)?,
+            Command::Reach {
+                surface,
+                ray,
+                index,
+            } => {
+                let recipe = part(&self.recipe, 0, self.length);
+                print_reach(output, surface, reach(recipe, ray, index, surface))?;
+            }
+        }
+        Ok(())
+    }
 
-fn go_on<W: Write>(
-    output: &mut W,
-    s: Station,
-    recipe: &[u8],
-    allowed: u16,
-    results: &mut [f64],
-) -> Turn {
-    let last = s.state;
-    let a = last.resume(recipe, results, allowed);
-    let state = a.state;
-    after(
-        s.length,
-        s.room,
-        state,
-        print_reply(output, b"continue", a, results),
-    )
-}
+    fn begin<W: Write>(&mut self, output: &mut W, ray: Ray, index: f64) -> Result<()> {
+        let results = first(&mut self.results, self.room);
+        let answer = start(part(&self.recipe, 0, self.length), ray, index, results);
+        self.state = answer.unwrap_or_else(|refused| refused.state());
+        print_reply(output, b"start", answer, self.state, results)
+    }
 
-// What stands of a trace takes no part.
-fn tell<W: Write>(output: &mut W, recipe: &[u8], surface: usize, ray: Ray, index: f64) -> bool {
-    print_reach(output, surface, reach(recipe, ray, index, surface))
-}
-
-fn after(length: usize, room: usize, state: State, going: bool) -> Turn {
-    Turn {
-        station: Station {
-            length,
-            room,
-            state,
-        },
-        going,
+    // A refused continuation leaves the state as it was.
+    fn go_on<W: Write>(&mut self, output: &mut W, allowed: u16) -> Result<()> {
+        let results = first(&mut self.results, self.room);
+        let answer = self
+            .state
+            .resume(part(&self.recipe, 0, self.length), results, allowed);
+        if let Ok(state) = answer {
+            self.state = state;
+        }
+        print_reply(output, b"continue", answer, self.state, results)
     }
 }
 
 // The first n numbers, as many as there are.
 fn first(results: &mut [f64], n: usize) -> &mut [f64] {
-    if n < results.len() {
-        return &mut results[..n];
-    }
-    results
-}
-
-fn fill(results: &mut [f64]) {
-    for i in 0..results.len() {
-        results[i] = 1.0;
-    }
+    let n = n.min(results.len());
+    &mut results[..n]
 }

@@ -15,7 +15,7 @@ use Rattle.surfaces.specs.Conic.{plane_crossing}
 use Rattle.surfaces.specs.Edges.{agree, bits, ◌over◌}
 use Rattle.surfaces.specs.Snell.{bent, negated_if, refracted, turned_if}
 use Rattle.surfaces.specs.Surface.{limit_of, onward_from, pass_answer, surface_end, surface_normal, turn_answer}
-use Rattle.surfaces.specs.Types.{all_finite, distance, dot_of, every_finite, over_of, point_at, ray_finite, ray_of}
+use Rattle.surfaces.specs.Types.{all_finite, dot_of, every_finite, over_of, point_at, ray_finite, ray_of}
 use Rattle.surfaces.specs.Types.{vector_length}
 use Rattle.trace.specs.Example.{bytes, patterns, plane_record}
 use Rattle.trace.specs.Leg.{beam_after, boundary_of, hit_row, leg_finite, leg_of, row_of, share}
@@ -28,7 +28,7 @@ use Rattle.trace.specs.Wanted.{reach_of}
 pub each_case : agree cases ≡ true
 unfolding cases bits ◌over◌ ray_of passes_in outcome_in state_in counts_of numbers_of continued bytes patterns
     plane_record decimal magnitude negative larger clamped infinite root neg round add sub mul div lt le eq is_nan
-    of_bits to_bits of_int dot_of vector_length over_of distance point_at all_finite ray_finite every_finite turned_if
+    of_bits to_bits of_int dot_of vector_length over_of point_at all_finite ray_finite every_finite turned_if
     negated_if bent refracted landed_within plane_crossing conic_crossing conic_normal gradient_normal normal_at
     pass_answer limit_of surface_normal onward_from turn_answer u16_at u32_at u64_at number_at numbers_at slot_at
     length_fits formed_at shaped_at semi_slot kind_of odd_count even_count coefficients_at optic_at record_at scan notes

@@ -3,8 +3,8 @@ use Rattle.std.specs.Prelude.{ℕ, List, [], ◌∷◌, get_or, eqb, ltb, Float,
 use Rattle.std.specs.Float.{nan}
 use Rattle.surfaces.specs.Types.{ray_of}
 use Rattle.trace.specs.declared.state.State.{State}
-use Rattle.trace.specs.declared.run.Answer.{Answer}
-use Rattle.trace.specs.declared.wanted.Reached.{Reached}
+use Rattle.trace.specs.Run.{Answer}
+use Rattle.trace.specs.Wanted.{Reached}
 use Rattle.trace.specs.Run.{Reply, continue_of}
 use Rattle.station.specs.declared.Verdict.{Verdict}
 

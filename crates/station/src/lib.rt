@@ -5,13 +5,14 @@
 
 ghost use Rattle.std.specs.Prelude.{◌≡◌, List, Float};
 ghost use Rattle.surfaces.specs.Types.{ray_of};
-ghost use Rattle.trace.specs.Run.{start_of, whole_of};
+ghost use Rattle.trace.specs.Refusal.{why_number};
+ghost use Rattle.trace.specs.Run.{start_of, whole_of, told_start};
 ghost use Rattle.trace.specs.Wanted.{reach_of};
-ghost use Rattle.station.specs.Lent.{version, passes_in, outcome_in, state_in, counts_of, numbers_of, verdict_of, left};
+ghost use Rattle.station.specs.Lent.{version, passes_in, outcome_in, state_in, counts_of, numbers_of, left};
 ghost use Rattle.station.specs.Lent.{told, continued, left_row, told_row};
 
 use surfaces::{ACCEPTED, ray_of};
-use trace::{Answer, Beam, RECORD_NUMBERS, State, reach, start, whole};
+use trace::{BLANK, Beam, RECORD_NUMBERS, Refused, State, reach, start, whole};
 
 // The version of this interface.
 pub const VERSION: u64 = 2;
@@ -50,7 +51,7 @@ pub const NUMBERS_PATH: usize = NUMBERS_INDEX + 1;
 
 pub const NUMBERS: usize = NUMBERS_PATH + 1;
 
-// 1 or the refusal, and the refused record's place.
+// 1 or the refusal, by the C header's numbers, and the refused record's place.
 #[repr(C)]
 #[derive(Drop)]
 pub struct Verdict {
@@ -59,18 +60,22 @@ pub struct Verdict {
 }
 
 // A count beyond its type becomes the type's largest, which fits no recipe.
+#[tactic(auto, unfolding(crate::specs::Lent::passes_in))]
 fn passes_in(n: u64) -> u16
     ensures { result ≡ passes_in n }
 {
-    if n < 65536 { n as u16 } else { u16::MAX }
+    u16::try_from(n).unwrap_or(u16::MAX)
 }
 
+#[tactic(auto, unfolding(crate::specs::Lent::outcome_in))]
 fn outcome_in(n: u64) -> u8
     ensures { result ≡ outcome_in n }
 {
-    if n < 256 { n as u8 } else { u8::MAX }
+    u8::try_from(n).unwrap_or(u8::MAX)
 }
 
+// usize and u64 are one size here, and std has no `From` between them: both ways are casts.
+#[tactic(auto, unfolding(crate::specs::Lent::state_in))]
 fn state_in(c: [u64; COUNTS], x: [f64; NUMBERS]) -> State
     ensures { result ≡ state_in c x }
 {
@@ -96,18 +101,20 @@ fn state_in(c: [u64; COUNTS], x: [f64; NUMBERS]) -> State
     }
 }
 
+#[tactic(auto, unfolding(crate::specs::Lent::counts_of))]
 fn counts_of(s: State) -> [u64; COUNTS]
     ensures { result ≡ counts_of s }
 {
     [
         s.number as u64,
         s.place as u64,
-        s.passes as u64,
+        u64::from(s.passes),
         s.steps as u64,
-        s.outcome as u64,
+        u64::from(s.outcome),
     ]
 }
 
+#[tactic(auto, unfolding(crate::specs::Lent::numbers_of))]
 fn numbers_of(s: State) -> [f64; NUMBERS]
     ensures { result ≡ numbers_of s }
 {
@@ -117,25 +124,57 @@ fn numbers_of(s: State) -> [f64; NUMBERS]
     [s.t, o.x, o.y, o.z, d.x, d.y, d.z, b.index, b.path]
 }
 
-fn verdict_of(a: Answer) -> Verdict
-    ensures { result ≡ verdict_of a }
+fn accepted() -> Verdict
+    ensures { result ≡ record { number = 1; place = 0 } }
 {
     Verdict {
-        number: a.number as u64,
-        place: a.place as u64,
+        number: u64::from(ACCEPTED),
+        place: 0,
     }
 }
 
-// Start and whole write the state that they answer.
-fn tell(a: Answer, counts: &mut [u64; COUNTS], numbers: &mut [f64; NUMBERS]) -> Verdict
-    ensures { (z : List Float)
-        → left result counts.new numbers.new z ≡ told (record { answer = a; buffer = z }) }
-{
-    *counts = counts_of(a.state);
-    *numbers = numbers_of(a.state);
-    verdict_of(a)
+impl From<Refused> for Verdict {
+    ghost from_gives = { λ e v. v ≡ record { number = why_number e.why; place = e.place } };
+
+    fn from(e: Refused) -> Verdict {
+        Verdict {
+            number: u64::from(e.why.number()),
+            place: e.place as u64,
+        }
+    }
 }
 
+fn hold(s: State, counts: &mut [u64; COUNTS], numbers: &mut [f64; NUMBERS])
+    ensures counts { counts.new ≡ counts_of s }
+    ensures numbers { numbers.new ≡ numbers_of s }
+{
+    *counts = counts_of(s);
+    *numbers = numbers_of(s);
+}
+
+// Start and whole write the state that they answer, and a refused one writes its refusal.
+#[tactic(auto, unfolding(trace::specs::Run::refused_answer))]
+fn tell(
+    a: Result<State, Refused>,
+    counts: &mut [u64; COUNTS],
+    numbers: &mut [f64; NUMBERS],
+) -> Verdict
+    ensures { (z : List Float)
+        → left result counts.new numbers.new z ≡ told (record { answer = told_start a; buffer = z }) }
+{
+    match a {
+        Ok(s) => {
+            hold(s, counts, numbers);
+            accepted()
+        }
+        Err(e) => {
+            hold(e.state(), counts, numbers);
+            Verdict::from(e)
+        }
+    }
+}
+
+// The header's calls give a ray as six numbers.
 #[unsafe(no_mangle)]
 pub extern "C" fn pilingrue_start(
     recipe: &[u8],
@@ -172,11 +211,10 @@ pub extern "C" fn pilingrue_continue(
     ensures { left result counts.new numbers.new buf.new
         ≡ continued recipe.now counts.old numbers.old buf.old allowed }
 {
-    let a = state_in(*counts, *numbers).resume(recipe, buf, allowed);
-    if a.number != ACCEPTED {
-        return verdict_of(a);
+    match state_in(*counts, *numbers).resume(recipe, buf, allowed) {
+        Ok(s) => tell(Ok(s), counts, numbers),
+        Err(e) => Verdict::from(e),
     }
-    tell(a, counts, numbers)
 }
 
 #[unsafe(no_mangle)]
@@ -204,6 +242,7 @@ pub extern "C" fn pilingrue_whole(
 }
 
 // The record of one surface, from the records up to it; no state and no result buffer takes part.
+#[tactic(auto, using(numbers::proofs::Literals::literals))]
 #[unsafe(no_mangle)]
 pub extern "C" fn pilingrue_reach(
     recipe: &[u8],
@@ -220,17 +259,16 @@ pub extern "C" fn pilingrue_reach(
     ensures { left_row result row.new
         ≡ told_row (reach_of recipe.now (ray_of ox oy oz dx dy dz) index surface) }
 {
-    let r = reach(
-        recipe,
-        ray_of(ox, oy, oz, dx, dy, dz),
-        index,
-        surface as usize,
-    );
-    let values = r.row;
-    *row = values;
-    Verdict {
-        number: r.number as u64,
-        place: r.place as u64,
+    let ray = ray_of(ox, oy, oz, dx, dy, dz);
+    match reach(recipe, ray, index, surface as usize) {
+        Ok(values) => {
+            *row = values;
+            accepted()
+        }
+        Err(e) => {
+            *row = [BLANK; RECORD_NUMBERS];
+            Verdict::from(e)
+        }
     }
 }
 

@@ -27,12 +27,12 @@ use Rattle.surfaces.specs.Sags.{edge_root}
 use Rattle.surfaces.specs.Snell.{bent, mirrored, negated_if, reflect_answer, reflected, refract_answer, refracted}
 use Rattle.surfaces.specs.Snell.{turned_if}
 use Rattle.surfaces.specs.Surface.{onward_from, pass_answer, surface_end, surface_normal, turn_answer}
-use Rattle.surfaces.specs.Types.{all_finite, both_finite, coefficients_good, distance, dot_of, every_finite, hit_finite}
+use Rattle.surfaces.specs.Types.{all_finite, both_finite, coefficients_good, dot_of, every_finite, hit_finite}
 use Rattle.surfaces.specs.Types.{landing_finite, over_of, point_at, ray_finite}
 
 pub each_case : agree cases ≡ true
 unfolding cases bits ◌over◌ decimal magnitude negative larger clamped infinite root neg add sub mul div lt le eq is_nan
-    of_bits of_int dot_of over_of distance point_at all_finite ray_finite both_finite landing_finite hit_finite
+    of_bits of_int dot_of over_of point_at all_finite ray_finite both_finite landing_finite hit_finite
     every_finite coefficients_good turned_if negated_if mirrored reflected reflect_answer bent refracted refract_answer
     curvature_of from_radius_answer from_curvature_answer conic_sag conic_sag_answer gradient_normal conic_normal
     conic_normal_answer conic_finite landed_within plane_crossing near_sag first_on kept first_root second_root

@@ -1,4 +1,5 @@
 -- The sags and slopes that the parts of the code speak of are the rules' own. Assumes nothing.
+use Rattle.numbers.proofs.Literals.{literals}
 use Rattle.std.specs.Prelude.{if◌then◌else◌}
 use mathlib.Core.Path.{◌≡◌, refl, sym, ◌∙◌}
 use mathlib.Core.Bool.{Bool, true, false, not, ◌&&◌, ◌||◌}
@@ -7,19 +8,20 @@ use lib.Ieee.Scale.{finite}
 use Rattle.numbers.specs.Arithmetic.{◌+₆₄◌, ◌-₆₄◌, ◌*₆₄◌, ◌/₆₄◌, ◌<₆₄◌, ◌≤₆₄◌, 0f, 1f, 2f, 1e-15}
 use Rattle.numbers.specs.Basic.{magnitude, larger}
 use Rattle.surfaces.specs.Types.{terms}
-use Rattle.surfaces.specs.Refusal.{Told, gives, refused, done, after, no_number}
+use Rattle.surfaces.specs.Refusal.{Told, plain, gives, refused, done, after, no_number}
 use Rattle.surfaces.specs.Conic.{sign_of}
 use Rattle.surfaces.specs.Sags.{edge_root}
 use Rattle.surfaces.specs.Asphere.{power_sum, slope_sum, base_sag, base_slope, even_sag, even_slope, odd_sag}
 use Rattle.surfaces.specs.Asphere.{odd_base_slope, odd_slope}
 use Rattle.surfaces.specs.Biconic.{numerator_of, biconic_radicand, biconic_sag, base_curve_radicand, base_curve_sag}
 use Rattle.surfaces.specs.Biconic.{circle_sag, toroid_sag}
-use Rattle.surfaces.specs.Parts.{Depths, depths, no_depths, no_depth, sag_of, base_root, base_sag_from, base_slope_from}
+use Rattle.surfaces.specs.Parts.{depths, no_depth, sag_of, base_root, base_sag_from, base_slope_from}
 use Rattle.surfaces.specs.Parts.{even_depth, even_slope_from, odd_depth, odd_base_slope_from, odd_slope_from}
 use Rattle.surfaces.specs.Parts.{biconic_depth, circle_depth, toroid_depth, shape_of, depth_of}
 use Rattle.surfaces.specs.declared.types.Vec3.{Vec3}
 use Rattle.surfaces.specs.declared.types.Coefficients.{Coefficients}
 use Rattle.surfaces.specs.declared.types.Polynomial.{Polynomial}
+use Rattle.surfaces.specs.declared.sags.Depth.{Depth}
 use Rattle.surfaces.specs.declared.newton.Profile.{Profile}
 use Rattle.surfaces.specs.declared.newton.Profile.TheVariants.{Asphere, Biconic, Toroid}
 
@@ -71,19 +73,19 @@ odd_slope_lem c k a r =
     base +₆₄ slope_sum (terms a.even) 2f r r2 +₆₄ slope_sum (terms a.odd) 1f 1f r2))
 
 -- the sag of what followed a root
-sag_after : (t : Told Float) (f : Float → Told Depths) (g : Float → Told Float) → ((s : Float) → sag_of (f s) ≡ g s) →
-    sag_of (after no_depths t f) ≡ after 0f t g
+sag_after : (t : Told Float) (f : Float → Told Depth) (g : Float → Told Float) → ((s : Float) → sag_of (f s) ≡ g s) →
+    sag_of (after no_depth t f) ≡ after 0f t g
 sag_after t f g h = by (done t)
   where
     by : (d : Bool) →
-        sag_of (if d then f t.value else refused no_depths t.line) ≡
+        sag_of (if d then f t.value else refused no_depth t.line) ≡
         (if d then g t.value else refused 0f t.line)
     by true = h t.value
     by false = refl
 
 -- and of what a test refuses
-sag_tested : (b : Bool) (x : Told Depths) (y : Told Float) → sag_of x ≡ y →
-    sag_of (if b then no_depth 2 else x) ≡ (if b then no_number 2 else y)
+sag_tested : (b : Bool) (x : Told Depth) (y : Told Float) → sag_of x ≡ y →
+    sag_of (if b then refused no_depth (plain 2) else x) ≡ (if b then no_number 2 else y)
 sag_tested true x y h = refl
 sag_tested false x y h = h
 
@@ -128,7 +130,9 @@ toroid_sag_lem rx cy ky x y =
 pub sag_there : (q : Profile) (a : Polynomial) (semi r : Float) (p : Vec3) →
     (shape_of q a semi).sag r p ≡ sag_of (depth_of q a r p)
 unfolding depth_of
-sag_there (Asphere c k false) a semi r p = sym (even_sag_lem c k a.even r)
-sag_there (Asphere c k true) a semi r p = sym (odd_sag_lem c k a r)
-sag_there (Biconic cx kx cy ky) a semi r p = sym (biconic_sag_lem cx kx cy ky p.x p.y)
-sag_there (Toroid rx cy ky) a semi r p = sym (toroid_sag_lem rx cy ky p.x p.y)
+sag_there (Asphere b false) a semi r p = sym (even_sag_lem b.c b.k a.even r)
+sag_there (Asphere b true) a semi r p = sym (odd_sag_lem b.c b.k a r)
+sag_there (Biconic b) a semi r p = sym (biconic_sag_lem b.x.c b.x.k b.y.c b.y.k p.x p.y)
+sag_there (Toroid t) a semi r p = sym (toroid_sag_lem t.rx t.base.c t.base.k p.x p.y)
+
+pub ruleset slopes = (literals, odd_slope_lem)

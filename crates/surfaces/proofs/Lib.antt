@@ -1,6 +1,7 @@
 -- Laws that several proofs use.
 pub mod Cases
 pub mod Refusals
+mod Units
 mod Terms
 mod Again
 mod Depths
@@ -10,6 +11,6 @@ mod Ways
 mod Passes
 pub mod Demand1
 pub mod Stops
-mod Unique
+pub mod Unique
 pub mod FirstCrossing
 pub mod Chains

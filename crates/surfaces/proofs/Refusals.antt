@@ -1,4 +1,5 @@
 -- A refusal's number is neither 1, an answer's, nor 0, an unfinished pass's. Assumes nothing.
+use Rattle.numbers.proofs.Literals.{literals}
 use Prim.Native.Nat.{◌≤◌}
 use mathlib.Core.Path.{◌≡◌}
 use mathlib.Core.Bool.{false}
@@ -27,3 +28,5 @@ never_done e = ne_eqb (line_of e).number 1 (λ h. omega (arith, above_one e, h))
 
 pub never_going : (e : Refusal) → eqb (line_of e).number 0 ≡ false
 never_going e = ne_eqb (line_of e).number 0 (λ h. omega (arith, above_one e, h))
+
+pub ruleset refusals = (literals, never_done, never_going)

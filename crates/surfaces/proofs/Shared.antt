@@ -1,5 +1,7 @@
 -- The slopes of a pass: the root and the other number that the sag had at the same point are those that the slopes' own
 -- rule finds. Assumes nothing.
+use Rattle.surfaces.proofs.Depths.{sag_there}
+use Rattle.surfaces.proofs.Refusals.{refusals}
 use Rattle.std.specs.Prelude.{if◌then◌else◌}
 use mathlib.Core.Path.{◌≡◌, refl, sym, ap, ◌∙◌}
 use mathlib.Core.Bool.{Bool, true, false, not, ◌&&◌, ◌||◌, true≢false, false≢true}
@@ -17,7 +19,7 @@ use Rattle.surfaces.specs.Asphere.{power_sum, radial_slopes, even_slopes, odd_on
 use Rattle.surfaces.specs.Conic.{sign_of}
 use Rattle.surfaces.specs.Biconic.{numerator_of, biconic_radicand, biconic_slopes_at, biconic_slopes}
 use Rattle.surfaces.specs.Biconic.{base_curve_radicand, base_curve_sag, slope_radicand, circle_slopes, toroid_slopes}
-use Rattle.surfaces.specs.Parts.{root_again, depths, no_depths, base_root, base_sag_from, even_depth, even_slope_from}
+use Rattle.surfaces.specs.Parts.{root_again, depths, no_depth, base_root, base_sag_from, even_depth, even_slope_from}
 use Rattle.surfaces.specs.Parts.{even_slopes_from, odd_depth, odd_slope_from, odd_slopes_from, biconic_depth}
 use Rattle.surfaces.specs.Parts.{biconic_slopes_from, circle_depth, toroid_depth, toroid_slopes_from, shape_of}
 use Rattle.surfaces.specs.Parts.{depth_of}
@@ -28,6 +30,7 @@ use Rattle.surfaces.specs.declared.types.Vec3.{Vec3}
 use Rattle.surfaces.specs.declared.types.Meridians.{Meridians}
 use Rattle.surfaces.specs.declared.types.Coefficients.{Coefficients}
 use Rattle.surfaces.specs.declared.types.Polynomial.{Polynomial}
+use Rattle.surfaces.specs.declared.sags.Depth.{Depth}
 use Rattle.surfaces.specs.declared.newton.Profile.{Profile}
 use Rattle.surfaces.specs.declared.newton.Profile.TheVariants.{Asphere, Biconic, Toroid}
 
@@ -66,10 +69,10 @@ slope_again cy ky y = root_again_lem _ _ (larger_fits _ (sub-fits binary64 _ _))
 module _ (z s w b : Float) where
   -- a sag that came after its root: its other numbers are that root and what stands beside it
   rooted : (t : Told Float) (sag : Float → Float) (part base : Float) →
-      after no_depths t (λ r. gives (depths (sag r) r part base)) ≡ gives (depths z s w b) →
+      after no_depth t (λ r. gives (depths (sag r) r part base)) ≡ gives (depths z s w b) →
       Followed t (λ r. gives (depths (sag r) r part base)) (depths z s w b) × (t.value ≡ s) × (part ≡ w) × (base ≡ b)
   rooted t sag part base h =
-      let f = followed t (λ r. gives (depths (sag r) r part base)) no_depths (depths z s w b) (done t) refl h in
+      let f = followed t (λ r. gives (depths (sag r) r part base)) no_depth (depths z s w b) (done t) refl h in
       (f, ap (λ d. d.value.root) f.gave, ap (λ d. d.value.part) f.gave, ap (λ d. d.value.base) f.gave)
 
   even : (c k : Float) (a : Coefficients) (x y r : Float) → even_depth c k a r ≡ gives (depths z s w b) →
@@ -77,7 +80,7 @@ module _ (z s w b : Float) where
   unfolding even_depth even_slopes even_slopes_from
   even c k a x y r h =
       let r2 = r *₆₄ r in
-      let t = tested (not (finite r) || (r <₆₄ 0f)) no_depths _ _ h in
+      let t = tested (not (finite r) || (r <₆₄ 0f)) no_depth _ _ h in
       let f = rooted (base_root c k r2) (λ d. base_sag_from c r2 d +₆₄ power_sum (terms a) r2 r2) r 0f t.1 in
       rw (even_slope_lem c k a r, t.0, f.0.goes 0f (even_slope_from c a r), f.1, ← f.2)
 
@@ -87,7 +90,7 @@ module _ (z s w b : Float) where
   unfolding odd_depth odd_slopes odd_slopes_at odd_slopes_from
   odd c k a x y r h =
       let r2 = r *₆₄ r in
-      let t = tested (not (finite r) || (r <₆₄ 0f)) no_depths _ _ h in
+      let t = tested (not (finite r) || (r <₆₄ 0f)) no_depth _ _ h in
       let f = rooted (base_root c k r2)
       (λ d. base_sag_from c r2 d +₆₄ power_sum (terms a.even) r2 r2 +₆₄ power_sum (terms a.odd) r r2) r 0f t.1 in
       rw (odd_slope_lem c k a r, f.0.goes 0f (λ d. gives (odd_slope_from c a r d)), f.1, ← f.2)
@@ -105,7 +108,7 @@ module _ (z s w b : Float) where
   unfolding biconic_depth biconic_slopes biconic_slopes_from
   biconic cx kx cy ky x y h =
       let num = numerator_of cx cy x y in
-      let t = tested (not (finite x && finite y)) no_depths _ _ h in
+      let t = tested (not (finite x && finite y)) no_depth _ _ h in
       let f = rooted (edge_root (biconic_radicand cx kx cy ky x y)) (λ d. num /₆₄ (1f +₆₄ d)) num 0f t.1 in
       rw (f.0.goes no_meridians (biconic_slopes_at cx kx cy ky x y num), f.1, f.2)
 
@@ -116,7 +119,7 @@ module _ (z s w b : Float) where
       let base = edge_root (base_curve_radicand cy ky y) in
       let term = rx -₆₄ base_curve_sag cy y base.value in
       let radicand = term *₆₄ term -₆₄ x *₆₄ x in
-      let f = followed base (λ d. circle_depth rx x (rx -₆₄ base_curve_sag cy y d) d) no_depths (depths z s w b)
+      let f = followed base (λ d. circle_depth rx x (rx -₆₄ base_curve_sag cy y d) d) no_depth (depths z s w b)
       (done base) refl h in
       let g = rooted (edge_root radicand) (λ d. rx -₆₄ sign_of rx *₆₄ d) term base.value f.gave in
       rw (
@@ -131,24 +134,27 @@ module _ (z s w b : Float) where
         slope_again cy ky y,
       )
 
-  pub shared : (q : Profile) (a : Polynomial) (semi r : Float) (p : Vec3) →
-      depth_of q a r p ≡ gives (depths z s w b) → (shape_of q a semi).slopes r p ≡ slopes_from q a p s w b
-  unfolding depth_of slopes_from
-  shared (Asphere c k false) a semi r p h = even c k a.even p.x p.y r h
-  shared (Asphere c k true) a semi r p h = odd c k a p.x p.y r h
-  shared (Biconic cx kx cy ky) a semi r p h = biconic cx kx cy ky p.x p.y h
-  shared (Toroid rx cy ky) a semi r p h = toroid rx cy ky p.x p.y h
+-- the slopes that a pass asks for are those from what the sag had
+pub shared : (q : Profile) (a : Polynomial) (semi r : Float) (p : Vec3) (d : Depth) → depth_of q a r p ≡ gives d →
+    (shape_of q a semi).slopes r p ≡ slopes_from q a p d
+unfolding depth_of slopes_from
+shared (Asphere b false) a semi r p d h = even d.sag d.root d.part d.base b.c b.k a.even p.x p.y r h
+shared (Asphere b true) a semi r p d h = odd d.sag d.root d.part d.base b.c b.k a p.x p.y r h
+shared (Biconic b) a semi r p d h = biconic d.sag d.root d.part d.base b.x.c b.x.k b.y.c b.y.k p.x p.y h
+shared (Toroid t) a semi r p d h = toroid d.sag d.root d.part d.base t.rx t.base.c t.base.k p.x p.y h
 
 pub semi_of : (q : Profile) (a : Polynomial) (semi : Float) → (shape_of q a semi).semi ≡ semi
-semi_of (Asphere c k false) a semi = refl
-semi_of (Asphere c k true) a semi = refl
-semi_of (Biconic cx kx cy ky) a semi = refl
-semi_of (Toroid rx cy ky) a semi = refl
+semi_of (Asphere c false) a semi = refl
+semi_of (Asphere c true) a semi = refl
+semi_of (Biconic c) a semi = refl
+semi_of (Toroid c) a semi = refl
 
 -- the second exit's check and the limit go by the kind alone
 pub kind_alone : (q : Profile) (a b : Polynomial) (s t : Float) →
     ((shape_of q a s).checks_last ≡ (shape_of q b t).checks_last) × ((shape_of q a s).limit ≡ (shape_of q b t).limit)
-kind_alone (Asphere c k false) a b s t = (refl, refl)
-kind_alone (Asphere c k true) a b s t = (refl, refl)
-kind_alone (Biconic cx kx cy ky) a b s t = (refl, refl)
-kind_alone (Toroid rx cy ky) a b s t = (refl, refl)
+kind_alone (Asphere c false) a b s t = (refl, refl)
+kind_alone (Asphere c true) a b s t = (refl, refl)
+kind_alone (Biconic c) a b s t = (refl, refl)
+kind_alone (Toroid c) a b s t = (refl, refl)
+
+pub ruleset passing = (refusals, sag_there, shared, semi_of, kind_alone)

@@ -1,4 +1,5 @@
 -- A pass that goes on is not the last, and one that does not go on, or a turn, hits or stops a trace. Assumes nothing.
+use Rattle.surfaces.proofs.Ways.{family_way}
 use Prim.Native.Nat.{ℕ, ◌+◌, ◌<◌}
 use mathlib.Core.Path.{◌≡◌, refl, sym, ◌∙◌}
 use mathlib.Core.Bool.{true, false, not, false≢true}
@@ -51,3 +52,5 @@ pub turn_stops : (s : Surface) (i p : Vec3) (b : Boundary) → done (turn_answer
 unfolding Only one_of stops
 turn_stops s i p b d =
     each stops (2 ∷ 4 ∷ 5 ∷ 8 ∷ []) (turn_answer s i p b).line.number refl (rw d at (demand_1.turn s i p b))
+
+pub ruleset chaining = (family_way, at_once)

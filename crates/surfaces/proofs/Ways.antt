@@ -36,11 +36,11 @@ abbrev pub Bounds : ℕ → Type 0
 Bounds n = (0 < n) × (n ≤ 35)
 
 pub profile_bounds : (q : Profile) (a : Polynomial) (semi : Float) → Bounds (shape_of q a semi).limit
-profile_bounds (profile.Asphere c k false) a semi = (lit≤ tt, lit≤ tt)
-profile_bounds (profile.Asphere c k true) a semi = (lit≤ tt, lit≤ tt)
-profile_bounds (profile.Biconic cx kx cy ky) a semi = (lit≤ tt, lit≤ tt)
-profile_bounds (profile.Toroid rx cy ky) a semi = (lit≤ tt, lit≤ tt)
+profile_bounds (profile.Asphere b false) a semi = (lit≤ tt, lit≤ tt)
+profile_bounds (profile.Asphere b true) a semi = (lit≤ tt, lit≤ tt)
+profile_bounds (profile.Biconic b) a semi = (lit≤ tt, lit≤ tt)
+profile_bounds (profile.Toroid t) a semi = (lit≤ tt, lit≤ tt)
 
 pub family_bounds : (f : Family) (s : Surface) → Bounds (limit_by (way_as f s))
-family_bounds (family.Conic c k) s = (lit≤ tt, lit≤ tt)
+family_bounds (family.Conic b) s = (lit≤ tt, lit≤ tt)
 family_bounds (family.Newton q) s = profile_bounds q s.polynomial s.semi

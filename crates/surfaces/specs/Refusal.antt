@@ -1,6 +1,7 @@
 -- What comes back, in SCOPE's terms (T1, T2): a line of its table and the answer's values. The rules speak in these
 -- terms, and what each answer of the code tells stands below. Definitions only.
 use Rattle.std.specs.Prelude.{ℕ, ◌+◌, Bool, false, not, ◌&&◌, ◌||◌, ◌≡◌, eqb, leb, Float, if◌then◌else◌}
+use Rattle.std.specs.Prelude.{Result, Ok, Err}
 use Rattle.numbers.specs.Arithmetic.{◌<₆₄◌, 0f}
 use Rattle.surfaces.specs.Types.{zeros, no_meridians, landing, no_landing, no_hit, no_coefficients}
 use Rattle.surfaces.specs.declared.types.Vec3.{Vec3}
@@ -13,39 +14,15 @@ use Rattle.surfaces.specs.declared.refusal.Refusal.TheVariants.{NumericalSingula
 use Rattle.surfaces.specs.declared.refusal.Refusal.TheVariants.{RayMissedSurface, RayVignetted}
 use Rattle.surfaces.specs.declared.refusal.Refusal.TheVariants.{TotalInternalReflection, NotFinite}
 use Rattle.surfaces.specs.declared.refusal.Line.{Line}
-use Rattle.surfaces.specs.declared.refusal.Acceptance.{Acceptance}
-use Rattle.surfaces.specs.declared.refusal.Acceptance.TheVariants as acceptance
-use Rattle.surfaces.specs.declared.refusal.Number.{Number}
-use Rattle.surfaces.specs.declared.refusal.Number.TheVariants as number
-use Rattle.surfaces.specs.declared.refusal.Sag.{Sag}
-use Rattle.surfaces.specs.declared.refusal.Sag.TheVariants as sag
-use Rattle.surfaces.specs.declared.refusal.Pair.{Pair}
-use Rattle.surfaces.specs.declared.refusal.Pair.TheVariants as pair
-use Rattle.surfaces.specs.declared.refusal.Direction.{Direction}
-use Rattle.surfaces.specs.declared.refusal.Direction.TheVariants as direction
-use Rattle.surfaces.specs.declared.refusal.Crossing.{Crossing}
-use Rattle.surfaces.specs.declared.refusal.Crossing.TheVariants as crossing
 use Rattle.surfaces.specs.declared.conic.ConicSurface.{ConicSurface}
-use Rattle.surfaces.specs.declared.conic.NewConic.{NewConic}
-use Rattle.surfaces.specs.declared.conic.NewConic.TheVariants as new_conic
-use Rattle.surfaces.specs.declared.conic.Meet.{Meet}
-use Rattle.surfaces.specs.declared.conic.Meet.TheVariants as meet
 use Rattle.surfaces.specs.declared.asphere.EvenAsphere.{EvenAsphere}
-use Rattle.surfaces.specs.declared.asphere.NewEven.{NewEven}
 use Rattle.surfaces.specs.declared.asphere.OddAsphere.{OddAsphere}
-use Rattle.surfaces.specs.declared.asphere.NewOdd.{NewOdd}
 use Rattle.surfaces.specs.declared.biconic.BiconicSurface.{BiconicSurface}
-use Rattle.surfaces.specs.declared.biconic.NewBiconic.{NewBiconic}
-use Rattle.surfaces.specs.declared.biconic.NewBiconic.TheVariants as new_biconic
 use Rattle.surfaces.specs.declared.biconic.ToroidalSurface.{ToroidalSurface}
-use Rattle.surfaces.specs.declared.biconic.NewToroid.{NewToroid}
-use Rattle.surfaces.specs.declared.biconic.NewToroid.TheVariants as new_toroid
 use Rattle.surfaces.specs.declared.newton.Passed.{Passed}
 use Rattle.surfaces.specs.declared.newton.Passed.TheVariants as passed
 use Rattle.surfaces.specs.declared.newton.Progress.{Progress}
 use Rattle.surfaces.specs.declared.surface.Leaving.{Leaving}
-use Rattle.surfaces.specs.declared.surface.Turned.{Turned}
-use Rattle.surfaces.specs.declared.surface.Turned.TheVariants as turned
 
 -- what is told: a line of the table "What comes back", and the answer's own values
 pub record Told (A : Type 0) : Type 0 where
@@ -112,29 +89,25 @@ line_of (RayVignetted r limit) = vignetted r limit
 line_of TotalInternalReflection = plain 8
 line_of NotFinite = plain 9
 
-abbrev pub told_number : Number → Told Float
-told_number (number.Given x) = gives x
-told_number (number.Refused e) = refused 0f (line_of e)
+-- what an answer of the code tells, where `blank` stands for no value
+abbrev pub told : {A : Type 0} → A → Result A Refusal → Told A
+told blank (Ok a) = gives a
+told blank (Err e) = refused blank (line_of e)
 
-abbrev pub told_sag : Sag → Told Float
-told_sag (sag.Given z) = gives z
-told_sag (sag.Refused e) = refused 0f (line_of e)
+abbrev pub told_number : Result Float Refusal → Told Float
+told_number = told 0f
 
-abbrev pub told_pair : Pair → Told Meridians
-told_pair (pair.Given m) = gives m
-told_pair (pair.Refused e) = refused no_meridians (line_of e)
+abbrev pub told_pair : Result Meridians Refusal → Told Meridians
+told_pair = told no_meridians
 
-abbrev pub told_direction : Direction → Told Vec3
-told_direction (direction.Given v) = gives v
-told_direction (direction.Refused e) = refused zeros (line_of e)
+abbrev pub told_direction : Result Vec3 Refusal → Told Vec3
+told_direction = told zeros
 
-abbrev pub told_crossing : Crossing → Told Landing
-told_crossing (crossing.Given l) = gives l
-told_crossing (crossing.Refused e) = refused no_landing (line_of e)
+abbrev pub told_crossing : Result Landing Refusal → Told Landing
+told_crossing = told no_landing
 
-abbrev pub told_meet : Meet → Told HitRecord
-told_meet (meet.Given h) = gives h
-told_meet (meet.Refused e) = refused no_hit (line_of e)
+abbrev pub told_meet : Result HitRecord Refusal → Told HitRecord
+told_meet = told no_hit
 
 -- constructors: a refused surface is blank, its coefficients among it
 abbrev pub no_conic : ConicSurface
@@ -152,36 +125,28 @@ no_biconic = record { cx = 0f; kx = 0f; cy = 0f; ky = 0f; semi = 0f }
 abbrev pub no_toroid : ToroidalSurface
 no_toroid = record { rx = 0f; cy = 0f; ky = 0f; semi = 0f }
 
-abbrev pub told_conic : NewConic → Told ConicSurface
-told_conic (new_conic.Given s) = gives s
-told_conic (new_conic.Refused e) = refused no_conic (line_of e)
+abbrev pub told_conic : Result ConicSurface Refusal → Told ConicSurface
+told_conic = told no_conic
 
-abbrev pub told_biconic : NewBiconic → Told BiconicSurface
-told_biconic (new_biconic.Given s) = gives s
-told_biconic (new_biconic.Refused e) = refused no_biconic (line_of e)
+abbrev pub told_even : Result EvenAsphere Refusal → Told EvenAsphere
+told_even = told no_even
 
-abbrev pub told_toroid : NewToroid → Told ToroidalSurface
-told_toroid (new_toroid.Given s) = gives s
-told_toroid (new_toroid.Refused e) = refused no_toroid (line_of e)
+abbrev pub told_odd : Result OddAsphere Refusal → Told OddAsphere
+told_odd = told no_odd
 
-abbrev pub acceptance_line : Acceptance → Line
-acceptance_line acceptance.Given = plain 1
-acceptance_line (acceptance.Refused e) = line_of e
+abbrev pub told_biconic : Result BiconicSurface Refusal → Told BiconicSurface
+told_biconic = told no_biconic
 
-abbrev pub told_even : NewEven → Told EvenAsphere
-told_even n = record { line = acceptance_line n.acceptance; value = n.surface }
-
-abbrev pub told_odd : NewOdd → Told OddAsphere
-told_odd n = record { line = acceptance_line n.acceptance; value = n.surface }
+abbrev pub told_toroid : Result ToroidalSurface Refusal → Told ToroidalSurface
+told_toroid = told no_toroid
 
 -- a pass that has not ended tells 0, and the t of the next one
 abbrev pub again : Float → Told Landing
 again t = record { line = plain 0; value = landing t zeros }
 
 abbrev pub told_passed : Passed → Told Landing
-told_passed (passed.Given l) = gives l
-told_passed (passed.Refused e) = refused no_landing (line_of e)
 told_passed (passed.Again t) = again t
+told_passed (passed.Ended x) = told_crossing x
 
 -- an end, and the passes that it took
 pub record Ended : Type 0 where
@@ -198,25 +163,13 @@ told_progress made e = ended (told_passed e.passed) (made + e.taken)
 abbrev pub no_leaving : Leaving
 no_leaving = record { normal = zeros; direction = zeros; front = false }
 
-abbrev pub told_turned : Turned → Told Leaving
-told_turned (turned.Given t) = gives t
-told_turned (turned.Refused e) = refused no_leaving (line_of e)
+abbrev pub told_turned : Result Leaving Refusal → Told Leaving
+told_turned = told no_leaving
 
 -- An answer is known by what it tells: of two answers that a promise allows, each is the other.
 abbrev pub OneToOne : {E T : Type 0} → (E → T) → Type 0
 OneToOne {E} told = (x y : E) → told x ≡ told y → x ≡ y
 
-pub record ToldOneToOne : Type 0 where
-  pub number : OneToOne told_number
-  pub sag : OneToOne told_sag
-  pub pair : OneToOne told_pair
-  pub direction : OneToOne told_direction
-  pub crossing : OneToOne told_crossing
-  pub meet : OneToOne told_meet
-  pub conic : OneToOne told_conic
-  pub even : OneToOne told_even
-  pub odd : OneToOne told_odd
-  pub biconic : OneToOne told_biconic
-  pub toroid : OneToOne told_toroid
+pub record ToldOneToOne : Type 1 where
+  pub answer : {A : Type 0} (blank : A) → OneToOne (told blank)
   pub progress : (made : ℕ) → OneToOne (told_progress made)
-  pub turned : OneToOne told_turned

@@ -41,7 +41,7 @@ unfoldable pub over_of : Vec3 → Float → Vec3
 over_of a s = vec (a.x /₆₄ s) (a.y /₆₄ s) (a.z /₆₄ s)
 
 -- how far (x, y) is from the axis
-unfoldable pub distance : Float → Float → Float
+abbrev pub distance : Float → Float → Float
 distance x y = root (x *₆₄ x +₆₄ y *₆₄ y)
 
 -- the point at t: per component, origin + t · direction, the product rounded first

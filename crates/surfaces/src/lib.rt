@@ -13,20 +13,19 @@ mod surface;
 mod types;
 mod waits;
 
-pub use asphere::{EvenAsphere, NewEven, NewOdd, OddAsphere};
-pub use biconic::{BiconicSurface, NewBiconic, NewToroid, ToroidalSurface};
-pub use conic::{ConicSurface, Meet, NewConic, conic_normal, conic_sag, intersect_conic};
+pub use asphere::{EvenAsphere, OddAsphere};
+pub use biconic::{BiconicSurface, ToroidalSurface};
+pub use conic::{ConicSurface, conic_normal, conic_sag, intersect_conic};
 pub use newton::{
     Passed, Progress, STEPS_BICONIC, STEPS_EVEN_ASPHERE, STEPS_ODD_ASPHERE, STEPS_TOROID,
 };
 pub use refusal::{
-    ACCEPTED, Acceptance, BAD_PARAMETER, Crossing, Direction, Line, MISSED, NEGATIVE_SEMI_DIAMETER,
-    NOT_FINITE, Number, OUTSIDE_DOMAIN, Pair, Refusal, SINGULAR, Sag, TOTAL_REFLECTION, VIGNETTED,
-    line_of,
+    ACCEPTED, BAD_PARAMETER, Line, MISSED, NEGATIVE_SEMI_DIAMETER, NOT_FINITE, OUTSIDE_DOMAIN,
+    Refusal, SINGULAR, TOTAL_REFLECTION, VIGNETTED, checked,
 };
 pub use snell::{reflect, snell_refract};
-pub use surface::{Boundary, Kind, Leaving, STEPS_CONIC, Surface, Turned, chain, limit, turn};
+pub use surface::{Boundary, Kind, Leaving, STEPS_CONIC, Surface, chain, limit, turn};
 pub use types::{
-    Coefficients, HitRecord, Landing, MOST_COEFFICIENTS, Meridians, Polynomial, Ray, Vec3,
-    all_finite, length, no_coefficients, no_polynomial, no_ray, ray_finite, ray_of,
+    Coefficients, Finite, HitRecord, Landing, MOST_COEFFICIENTS, Meridians, Polynomial, Ray, Vec3,
+    length, no_coefficients, no_polynomial, no_ray, ray_of,
 };

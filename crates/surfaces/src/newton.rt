@@ -5,21 +5,18 @@ ghost use Rattle.std.specs.Prelude.{◌≡◌, ◌<◌};
 ghost use Rattle.numbers.specs.Arithmetic.{0f};
 ghost use Rattle.numbers.specs.Root.{root};
 ghost use Rattle.surfaces.specs.Types.{no_polynomial};
-ghost use Rattle.surfaces.specs.Refusal.{no_crossing, told_pair, told_crossing, told_passed};
-ghost use Rattle.surfaces.specs.Refusal.{told_progress};
-ghost use Rattle.surfaces.specs.Newton.{arrived_at, moved_by, pass_at, vertex_plane, newton_end, can_be_met};
-ghost use Rattle.surfaces.specs.Newton.{pass_start};
-ghost use Rattle.surfaces.specs.Newton.{next_pass, limited_pass};
+ghost use Rattle.surfaces.specs.Refusal.{no_crossing, told_pair, told_crossing, told_passed, told_progress};
+ghost use Rattle.surfaces.specs.Newton.{arrived_at, moved_by, pass_at, vertex_plane, newton_answer, newton_end};
+ghost use Rattle.surfaces.specs.Newton.{can_be_met, pass_start, next_pass, limited_pass};
 ghost use Rattle.surfaces.specs.Surface.{passes, chain_by};
-ghost use Rattle.surfaces.specs.Parts.{told_depth, shape_of, depth_of, slopes_from};
+ghost use Rattle.surfaces.specs.Parts.{told_within, no_depth, shape_of, shape_met, depth_of, slopes_from};
 
 use crate::conic::landed_within;
-use crate::refusal::{Crossing, Pair, Refusal};
+use crate::refusal::{Refusal, checked, demand};
 use crate::sags::{
-    Depth, biconic_depth, biconic_slopes_from, even_depth, even_slopes_from, odd_depth,
-    odd_slopes_from, toroid_depth, toroid_slopes_from,
+    Beyond, Biconic, Depth, Toroid, even_depth, even_slopes_from, odd_depth, odd_slopes_from,
 };
-use crate::types::{Landing, Meridians, Polynomial, Ray, Vec3, point_at, ray_finite};
+use crate::types::{Finite, Landing, Meridians, Polynomial, Ray, Section, Vec3, point_at};
 use numbers::{abs, is_finite, root_exceeds, sqrt};
 
 // How many passes each kind may take.
@@ -31,20 +28,20 @@ pub const STEPS_BICONIC: u16 = 35;
 
 pub const STEPS_TOROID: u16 = 35;
 
-// The kinds that Newton's method meets.
+// The kinds that Newton's method meets. An odd asphere is no case of its own, which would make each match a jump by a
+// table.
 #[derive(Clone, Copy)]
 pub(crate) enum Profile {
-    Asphere { c: f64, k: f64, odd: bool },
-    Biconic { cx: f64, kx: f64, cy: f64, ky: f64 },
-    Toroid { rx: f64, cy: f64, ky: f64 },
+    Asphere { base: Section, odd: bool },
+    Biconic(Biconic),
+    Toroid(Toroid),
 }
 
-// What a pass comes to: a hit, a refusal, or the t of the next pass.
+// What a pass comes to: the t of the next pass, or the surface's end.
 #[derive(Clone, Copy)]
 pub enum Passed {
-    Given(Landing),
-    Refused(Refusal),
     Again(f64),
+    Ended(Result<Landing, Refusal>),
 }
 
 // How far passes came: what the last one came to, and how many they were.
@@ -54,283 +51,228 @@ pub struct Progress {
     pub taken: u16,
 }
 
-// The sag at p, from what its distance from the axis is the root of.
-fn depth(q: Profile, a: Polynomial, p: Vec3, sq: f64) -> Depth
-    ensures { told_depth result ≡ depth_of q a (root sq) p }
-{
-    let even = a.even;
-    match q {
-        Profile::Asphere { c, k, odd } => {
-            if odd {
-                odd_depth(c, k, a, sqrt(sq), sq)
-            } else {
-                even_depth(c, k, even, sqrt(sq), sq)
+impl Profile {
+    // The sag at p, from what its distance from the axis is the root of.
+    #[tactic(auto, unfolding(crate::specs::Parts::depth_of))]
+    fn depth(self, a: &Polynomial, p: Vec3, sq: f64) -> Result<Depth, Beyond>
+        ensures { told_within no_depth result ≡ depth_of self a.now (root sq) p }
+    {
+        match self {
+            Profile::Asphere { base, odd } => {
+                if odd {
+                    odd_depth(base, a, sqrt(sq), sq)
+                } else {
+                    even_depth(base, &a.even, sqrt(sq), sq)
+                }
             }
+            Profile::Biconic(b) => b.depth(p.x, p.y),
+            Profile::Toroid(t) => t.depth(p.x, p.y),
         }
-        Profile::Biconic { cx, kx, cy, ky } => biconic_depth(cx, kx, cy, ky, p.x, p.y),
-        Profile::Toroid { rx, cy, ky } => toroid_depth(rx, cy, ky, p.x, p.y),
     }
-}
 
-// The slopes at p, from what the sag there had.
-fn slopes_from(q: Profile, a: Polynomial, p: Vec3, root: f64, part: f64, base: f64) -> Pair
-    ensures { told_pair result ≡ slopes_from q a p root part base }
-{
-    let even = a.even;
-    match q {
-        Profile::Asphere { c, k: _, odd } => {
-            if odd {
-                Pair::Given(odd_slopes_from(c, a, p.x, p.y, part, root))
-            } else {
-                even_slopes_from(c, even, p.x, p.y, part, root)
+    // The slopes at p, from what the sag there had.
+    #[tactic(auto, unfolding(crate::specs::Parts::slopes_from))]
+    fn slopes_from(self, a: &Polynomial, p: Vec3, d: Depth) -> Result<Meridians, Refusal>
+        ensures { told_pair result ≡ slopes_from self a.now p d }
+    {
+        match self {
+            Profile::Asphere { base, odd } => {
+                if odd {
+                    Ok(odd_slopes_from(base, a, p.x, p.y, d))
+                } else {
+                    even_slopes_from(base, &a.even, p.x, p.y, d)
+                }
             }
+            Profile::Biconic(b) => b.slopes_from(p.x, p.y, d),
+            Profile::Toroid(t) => t.slopes_from(p.x, p.y, d),
         }
-        Profile::Biconic { cx, kx, cy, ky } => biconic_slopes_from(
-            cx, kx, cy, ky, p.x, p.y, part, root,
-        ),
-        Profile::Toroid { rx, cy, ky } => toroid_slopes_from(
-            rx, cy, ky, p.x, p.y, part, root, base,
-        ),
     }
-}
 
-// Whether r is checked where the move is small: not on an even asphere.
-fn checks_last(q: Profile) -> bool
-    ensures { result ≡ (shape_of q no_polynomial 0f).checks_last }
-{
-    match q {
-        Profile::Asphere { c: _, k: _, odd } => odd,
-        Profile::Biconic {
-            cx: _,
-            kx: _,
-            cy: _,
-            ky: _,
-        } => true,
-        Profile::Toroid {
-            rx: _,
-            cy: _,
-            ky: _,
-        } => true,
-    }
-}
-
-pub(crate) fn profile_limit(q: Profile) -> u16
-    ensures { result ≡ (shape_of q no_polynomial 0f).limit }
-{
-    match q {
-        Profile::Asphere { c: _, k: _, odd } => {
-            if odd {
-                STEPS_ODD_ASPHERE
-            } else {
-                STEPS_EVEN_ASPHERE
-            }
+    // Whether r is checked where the move is small: not on an even asphere.
+    fn checks_last(self) -> bool
+        ensures { result ≡ (shape_of self no_polynomial 0f).checks_last }
+    {
+        match self {
+            Profile::Asphere { odd, .. } => odd,
+            Profile::Biconic(_) | Profile::Toroid(_) => true,
         }
-        Profile::Biconic {
-            cx: _,
-            kx: _,
-            cy: _,
-            ky: _,
-        } => STEPS_BICONIC,
-        Profile::Toroid {
-            rx: _,
-            cy: _,
-            ky: _,
-        } => STEPS_TOROID,
     }
-}
 
-pub(crate) fn ended(x: Crossing) -> Passed
-    ensures { told_passed result ≡ told_crossing x }
-{
-    match x {
-        Crossing::Given(l) => Passed::Given(l),
-        Crossing::Refused(e) => Passed::Refused(e),
+    pub(crate) fn limit(self) -> u16
+        ensures { result ≡ (shape_of self no_polynomial 0f).limit }
+    {
+        match self {
+            Profile::Asphere { odd: true, .. } => STEPS_ODD_ASPHERE,
+            Profile::Asphere { odd: false, .. } => STEPS_EVEN_ASPHERE,
+            Profile::Biconic(_) => STEPS_BICONIC,
+            Profile::Toroid(_) => STEPS_TOROID,
+        }
     }
-}
-
-// Where the move was small.
-fn arrived(checks: bool, semi: f64, ray: Ray, t: f64) -> Crossing
-    ensures { told_crossing result ≡ arrived_at checks semi ray t }
-{
-    let p = point_at(ray, t);
-    if checks {
-        landed_within(t, p, p.x * p.x + p.y * p.y, semi)
-    } else {
-        Crossing::Given(Landing { t, point: p })
-    }
-}
-
-// The move from t by f / f', from the residual f and the sag's slopes; singular where f' is about 0.
-fn moved(checks: bool, semi: f64, ray: Ray, t: f64, f: f64, m: Meridians) -> Passed
-    ensures { told_passed result ≡ moved_by checks semi ray t f m }
-{
-    let d = ray.direction;
-    let slope = d.z - (m.x * d.x + m.y * d.y);
-    if abs(slope) < 1e-15 {
-        return Passed::Refused(Refusal::NumericalSingularity);
-    }
-    let delta = f / slope;
-    if abs(delta) < 1e-12 {
-        return ended(arrived(checks, semi, ray, t - delta));
-    }
-    Passed::Again(t - delta)
 }
 
 fn missed() -> Passed
     ensures { told_passed result ≡ no_crossing 6 }
 {
-    Passed::Refused(Refusal::RayMissedSurface)
+    Passed::Ended(Err(Refusal::RayMissedSurface))
 }
 
-// A pass from t.
-fn pass_at(q: Profile, a: Polynomial, semi: f64, vertex: f64, ray: Ray, t: f64) -> Passed
-    ensures { told_passed result ≡ pass_at (shape_of q a semi) vertex ray t }
-{
-    let p = point_at(ray, t);
-    let sq = p.x * p.x + p.y * p.y;
-    if root_exceeds(sq, semi * 1.5) {
-        return missed();
-    }
-    match depth(q, a, p, sq) {
-        Depth::Given {
-            sag,
-            root,
-            part,
-            base,
-        } => {
-            let f = p.z - vertex - sag;
-            if abs(f) < 1e-11 {
-                return ended(landed_within(t, p, sq, semi));
-            }
-            match slopes_from(q, a, p, root, part, base) {
-                Pair::Given(m) => moved(checks_last(q), semi, ray, t, f, m),
-                Pair::Refused(_) => missed(),
-            }
+// A ray on its way to a surface of a profile, and of coefficients if it is an asphere.
+#[derive(Clone, Copy)]
+pub(crate) struct Approach {
+    pub profile: Profile,
+    pub polynomial: Polynomial,
+    pub semi: f64,
+    pub vertex: f64,
+    pub ray: Ray,
+}
+
+impl Approach {
+    // Where the move was small.
+    #[tactic(auto, unfolding(crate::specs::Newton::arrived_at), using(crate::proofs::Shared::kind_alone))]
+    fn arrived(&self, t: f64) -> Result<Landing, Refusal>
+        ensures { told_crossing result ≡ arrived_at (shape_met self.now).checks_last self.now.semi self.now.ray t }
+    {
+        let p = point_at(self.ray, t);
+        if self.profile.checks_last() {
+            landed_within(t, p, p.x * p.x + p.y * p.y, self.semi)
+        } else {
+            Ok(Landing { t, point: p })
         }
-        Depth::Outside => missed(),
-        Depth::Invalid => missed(),
     }
-}
 
-// Where the ray meets the vertex plane, and no earlier than its origin.
-fn vertex_plane(vertex: f64, ray: Ray) -> f64
-    ensures { result ≡ vertex_plane vertex ray }
-{
-    let t = (vertex - ray.origin.z) / ray.direction.z;
-    if t < 0.0 { 0.0 } else { t }
-}
-
-// Where a pass begins: the first at the vertex plane.
-fn pass_start(vertex: f64, ray: Ray, made: u16, t: f64) -> f64
-    ensures { result ≡ pass_start vertex ray made t }
-{
-    if made == 0 {
-        vertex_plane(vertex, ray)
-    } else {
-        t
-    }
-}
-
-// The pass after `made` passes. It has one place where it passes, so that the compiler can put that here.
-fn next_pass(
-    q: Profile,
-    a: Polynomial,
-    semi: f64,
-    vertex: f64,
-    ray: Ray,
-    made: u16,
-    t: f64,
-) -> Passed
-    ensures { told_passed result ≡ next_pass (shape_of q a semi) vertex ray made t }
-{
-    if (made == 0) & (abs(ray.direction.z) < 1e-15) {
-        return missed();
-    }
-    pass_at(q, a, semi, vertex, ray, pass_start(vertex, ray, made, t))
-}
-
-// The same, where the last pass that is allowed ends in a miss at worst.
-pub(crate) fn limited_pass(
-    q: Profile,
-    a: Polynomial,
-    semi: f64,
-    vertex: f64,
-    ray: Ray,
-    made: u16,
-    t: f64,
-) -> Passed
-    ensures { told_passed result ≡ limited_pass (shape_of q a semi) vertex ray made t }
-{
-    let x = next_pass(q, a, semi, vertex, ray, made, t);
-    match x {
-        Passed::Again(_) => {
-            if profile_limit(q) as usize <= made as usize + 1 {
-                missed()
-            } else {
-                x
-            }
+    // The move from t by f / f', from the residual f and the sag's slopes; singular where f' is about 0.
+    #[tactic(auto, unfolding(crate::specs::Newton::moved_by), using(numbers::proofs::Literals::literals))]
+    fn moved(&self, t: f64, f: f64, m: Meridians) -> Passed
+        ensures { told_passed result
+            ≡ moved_by (shape_met self.now).checks_last self.now.semi self.now.ray t f m }
+    {
+        let d = self.ray.direction;
+        let slope = d.z - (m.x * d.x + m.y * d.y);
+        if abs(slope) < 1e-15 {
+            return Passed::Ended(Err(Refusal::NumericalSingularity));
         }
-        Passed::Given(_) => x,
-        Passed::Refused(_) => x,
+        let delta = f / slope;
+        if abs(delta) < 1e-12 {
+            return Passed::Ended(self.arrived(t - delta));
+        }
+        Passed::Again(t - delta)
     }
-}
 
-// At most `left` passes, one after another until one ends, after `made` of them.
-pub(crate) fn newton_chain(
-    q: Profile,
-    a: Polynomial,
-    semi: f64,
-    vertex: f64,
-    ray: Ray,
-    left: u16,
-    made: u16,
-    t: f64,
-) -> Progress
-    requires { 0 < left }
-    ensures { told_progress made result ≡ chain_by (passes (shape_of q a semi)) vertex ray left made t }
-{
-    let mut at = made;
-    let mut u = t;
-    let mut taken: u16 = 0;
-    let passed = loop {
-        taken += 1;
-        let x = limited_pass(q, a, semi, vertex, ray, at, u);
-        match x {
-            Passed::Again(v) => {
-                if taken == left {
-                    break x;
+    // A pass from t.
+    #[tactic(auto, unfolding(crate::specs::Newton::pass_at), using(crate::proofs::Shared::passing))]
+    fn pass_at(&self, t: f64) -> Passed
+        ensures { told_passed result ≡ pass_at (shape_met self.now) self.now.vertex self.now.ray t }
+    {
+        let p = point_at(self.ray, t);
+        let sq = p.x * p.x + p.y * p.y;
+        if root_exceeds(sq, self.semi * 1.5) {
+            return missed();
+        }
+        let Ok(depth) = self.profile.depth(&self.polynomial, p, sq) else {
+            return missed();
+        };
+        let f = p.z - self.vertex - depth.sag;
+        if abs(f) < 1e-11 {
+            return Passed::Ended(landed_within(t, p, sq, self.semi));
+        }
+        match self.profile.slopes_from(&self.polynomial, p, depth) {
+            Ok(m) => self.moved(t, f, m),
+            Err(_) => missed(),
+        }
+    }
+
+    // Where the ray meets the vertex plane, and no earlier than its origin.
+    #[tactic(auto, unfolding(crate::specs::Newton::vertex_plane), using(numbers::proofs::Literals::literals))]
+    fn vertex_plane(&self) -> f64
+        ensures { result ≡ vertex_plane self.now.vertex self.now.ray }
+    {
+        let t = (self.vertex - self.ray.origin.z) / self.ray.direction.z;
+        if t < 0.0 { 0.0 } else { t }
+    }
+
+    // Where a pass begins: the first at the vertex plane.
+    #[tactic(auto, unfolding(crate::specs::Newton::pass_start))]
+    fn pass_start(&self, made: u16, t: f64) -> f64
+        ensures { result ≡ pass_start self.now.vertex self.now.ray made t }
+    {
+        if made == 0 { self.vertex_plane() } else { t }
+    }
+
+    // The pass after `made` passes. It has one place where it passes, so that the compiler can put that here.
+    #[tactic(auto, unfolding(crate::specs::Newton::next_pass), using(numbers::proofs::Literals::literals))]
+    fn next_pass(&self, made: u16, t: f64) -> Passed
+        ensures { told_passed result ≡ next_pass (shape_met self.now) self.now.vertex self.now.ray made t }
+    {
+        if (made == 0) & (abs(self.ray.direction.z) < 1e-15) {
+            return missed();
+        }
+        self.pass_at(self.pass_start(made, t))
+    }
+
+    // The same, where the last pass that is allowed ends in a miss at worst.
+    #[tactic(auto, unfolding(crate::specs::Newton::limited_pass), using(crate::proofs::Shared::passing))]
+    fn limited_pass(&self, made: u16, t: f64) -> Passed
+        ensures { told_passed result ≡ limited_pass (shape_met self.now) self.now.vertex self.now.ray made t }
+    {
+        let passed = self.next_pass(made, t);
+        match passed {
+            Passed::Again(_) if usize::from(self.profile.limit()) <= usize::from(made) + 1 =>
+                missed(),
+            _ => passed,
+        }
+    }
+
+    // At most `left` passes, one after another until one ends, after `made` of them. They are counted by hand, since the
+    // loop hands out its last pass, which a `for` could not.
+    pub(crate) fn chain(&self, left: u16, made: u16, t: f64) -> Progress
+        requires { 0 < left }
+        ensures { told_progress made result
+            ≡ chain_by (passes (shape_met self.now)) self.now.vertex self.now.ray left made t }
+    {
+        let mut at = made;
+        let mut u = t;
+        let mut taken: u16 = 0;
+        let passed = loop {
+            taken += 1;
+            let x = self.limited_pass(at, u);
+            match x {
+                Passed::Again(v) => {
+                    if taken == left {
+                        break x;
+                    }
+                    at += 1;
+                    u = v;
                 }
-                at += 1;
-                u = v;
+                Passed::Ended(_) => break x,
             }
-            Passed::Given(_) => {
-                break x;
-            }
-            Passed::Refused(_) => {
-                break x;
-            }
-        }
-    };
-    Progress { passed, taken }
-}
-
-// The Rust's intersect_ray of these kinds.
-pub(crate) fn newton(q: Profile, a: Polynomial, semi: f64, vertex: f64, ray: Ray) -> Crossing
-    ensures { told_crossing result ≡ (newton_end (shape_of q a semi) vertex ray).answer }
-{
-    let end = newton_chain(q, a, semi, vertex, ray, profile_limit(q), 0, 0.0);
-    let passed = end.passed;
-    match passed {
-        Passed::Given(l) => Crossing::Given(l),
-        Passed::Refused(e) => Crossing::Refused(e),
-        // The last pass that is allowed ends.
-        Passed::Again(_) => Crossing::Refused(Refusal::RayMissedSurface),
+        };
+        Progress { passed, taken }
     }
-}
 
-// What a single intersection tests before it: all numbers finite, and no negative semi-diameter.
-pub(crate) fn can_be_met(good: bool, semi: f64, ray: Ray, vertex: f64) -> bool
-    ensures { result ≡ can_be_met good semi ray vertex }
-{
-    ray_finite(ray) & is_finite(vertex) & good & !(semi < 0.0)
+    // The Rust's intersect_ray of these kinds.
+    fn end(&self) -> Result<Landing, Refusal>
+        ensures { told_crossing result ≡ (newton_end (shape_met self.now) self.now.vertex self.now.ray).answer }
+    {
+        match self.chain(self.profile.limit(), 0, 0.0).passed {
+            Passed::Ended(crossing) => crossing,
+            // The last pass that is allowed ends.
+            Passed::Again(_) => Err(Refusal::RayMissedSurface),
+        }
+    }
+
+    // What a single intersection tests before it: all numbers finite, and no negative semi-diameter.
+    #[tactic(auto, using(numbers::proofs::Literals::literals))]
+    fn is_good(&self, good: bool) -> bool
+        ensures { result ≡ can_be_met good self.now.semi self.now.ray self.now.vertex }
+    {
+        self.ray.all_finite() & is_finite(self.vertex) & good & !(self.semi < 0.0)
+    }
+
+    // What a surface's intersect_ray hands out, where `good` tells whether its numbers are.
+    pub(crate) fn answer(&self, good: bool) -> Result<Landing, Refusal>
+        ensures { told_crossing result ≡ newton_answer good (shape_met self.now) self.now.ray self.now.vertex }
+    {
+        demand(self.is_good(good), Refusal::InvalidParameter)?;
+        checked(self.end())
+    }
 }

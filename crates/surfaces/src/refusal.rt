@@ -1,13 +1,8 @@
 // What comes back: the value, or why there is none.
-ghost use Rattle.std.specs.Prelude.{◌≡◌};
-ghost use Rattle.std.specs.Float.Ieee.Scale.{finite};
-ghost use Rattle.numbers.specs.Arithmetic.{0f};
-ghost use Rattle.surfaces.specs.Types.{zeros, all_finite, no_meridians, both_finite, no_landing, landing_finite};
-ghost use Rattle.surfaces.specs.Refusal.{plain, checked9, line_of, told_number, told_sag, told_pair, told_direction};
-ghost use Rattle.surfaces.specs.Refusal.{told_crossing};
+ghost use Rattle.std.specs.Prelude.{◌≡◌, OnOk, IfErr, IsTrue, IsFalse};
+ghost use Rattle.surfaces.specs.Refusal.{plain, checked9, line_of, told};
 
-use crate::types::{Landing, Meridians, Vec3, all_finite};
-use numbers::is_finite;
+use crate::types::Finite;
 
 // The numbers of SCOPE's table (T1) that a surface's answer has: 1 for a value, else why there is none.
 pub const ACCEPTED: u8 = 1;
@@ -42,6 +37,7 @@ pub enum Refusal {
 }
 
 // A line of SCOPE's table (T1): its number, and r and the semi-diameter, which a 7 names and no other.
+// C and the result records have these numbers.
 #[derive(Clone, Copy)]
 pub struct Line {
     pub number: u8,
@@ -49,6 +45,7 @@ pub struct Line {
     pub limit: f64,
 }
 
+#[tactic(auto, using(numbers::proofs::Literals::literals))]
 fn plain(number: u8) -> Line
     ensures { result ≡ plain number }
 {
@@ -59,134 +56,43 @@ fn plain(number: u8) -> Line
     }
 }
 
-pub fn line_of(e: Refusal) -> Line
-    ensures { result ≡ line_of e }
-{
-    match e {
-        Refusal::InvalidParameter => plain(BAD_PARAMETER),
-        Refusal::InvalidSurface => plain(NEGATIVE_SEMI_DIAMETER),
-        Refusal::NumericalSingularity => plain(SINGULAR),
-        Refusal::GeometryOutsideAperture => plain(OUTSIDE_DOMAIN),
-        Refusal::RayMissedSurface => plain(MISSED),
-        Refusal::RayVignetted { r, limit } => Line {
-            number: VIGNETTED,
-            r,
-            limit,
-        },
-        Refusal::TotalInternalReflection => plain(TOTAL_REFLECTION),
-        Refusal::NotFinite => plain(NOT_FINITE),
+impl From<Refusal> for Line {
+    ghost from_gives = { λ e l. l ≡ line_of e };
+
+    fn from(e: Refusal) -> Line {
+        match e {
+            Refusal::InvalidParameter => plain(BAD_PARAMETER),
+            Refusal::InvalidSurface => plain(NEGATIVE_SEMI_DIAMETER),
+            Refusal::NumericalSingularity => plain(SINGULAR),
+            Refusal::GeometryOutsideAperture => plain(OUTSIDE_DOMAIN),
+            Refusal::RayMissedSurface => plain(MISSED),
+            Refusal::RayVignetted { r, limit } => Line {
+                number: VIGNETTED,
+                r,
+                limit,
+            },
+            Refusal::TotalInternalReflection => plain(TOTAL_REFLECTION),
+            Refusal::NotFinite => plain(NOT_FINITE),
+        }
     }
 }
 
-// Whether a surface is accepted that stands beside, since no enum holds an array.
-#[derive(Clone, Copy)]
-pub enum Acceptance {
-    Given,
-    Refused(Refusal),
-}
-
-#[derive(Clone, Copy)]
-pub enum Number {
-    Given(f64),
-    Refused(Refusal),
-}
-
-#[derive(Clone, Copy)]
-pub enum Sag {
-    Given(f64),
-    Refused(Refusal),
-}
-
-#[derive(Clone, Copy)]
-pub enum Pair {
-    Given(Meridians),
-    Refused(Refusal),
-}
-
-#[derive(Clone, Copy)]
-pub enum Direction {
-    Given(Vec3),
-    Refused(Refusal),
-}
-
-#[derive(Clone, Copy)]
-pub enum Crossing {
-    Given(Landing),
-    Refused(Refusal),
-}
-
-pub(crate) fn checked_number(a: Number) -> Number
-    ensures { told_number result ≡ checked9 0f finite (told_number a) }
+// What a function asks of its arguments before all else.
+pub(crate) fn demand(good: bool, e: Refusal) -> Result<(), Refusal>
+    ensures good { OnOk result (IsTrue good) }
+    ensures bad { IfErr result (λ x. (x ≡ e) × IsFalse good) }
 {
-    match a {
-        Number::Given(x) => {
-            if is_finite(x) {
-                a
-            } else {
-                Number::Refused(Refusal::NotFinite)
-            }
-        }
-        Number::Refused(_) => a,
-    }
+    if good { Ok(()) } else { Err(e) }
 }
 
-pub(crate) fn checked_sag(a: Sag) -> Sag
-    ensures { told_sag result ≡ checked9 0f finite (told_sag a) }
+// 9 comes last: of an answer with a number that is not finite.
+pub fn checked<T: Finite + Copy>(a: Result<T, Refusal>) -> Result<T, Refusal>
+    ensures { (blank : T) → told blank result ≡ checked9 blank T.fine (told blank a) }
 {
-    match a {
-        Sag::Given(z) => {
-            if is_finite(z) {
-                a
-            } else {
-                Sag::Refused(Refusal::NotFinite)
-            }
-        }
-        Sag::Refused(_) => a,
-    }
-}
-
-pub(crate) fn checked_pair(a: Pair) -> Pair
-    ensures { told_pair result ≡ checked9 no_meridians both_finite (told_pair a) }
-{
-    match a {
-        Pair::Given(m) => {
-            if is_finite(m.x) & is_finite(m.y) {
-                a
-            } else {
-                Pair::Refused(Refusal::NotFinite)
-            }
-        }
-        Pair::Refused(_) => a,
-    }
-}
-
-pub(crate) fn checked_direction(a: Direction) -> Direction
-    ensures { told_direction result ≡ checked9 zeros all_finite (told_direction a) }
-{
-    match a {
-        Direction::Given(v) => {
-            if all_finite(v) {
-                a
-            } else {
-                Direction::Refused(Refusal::NotFinite)
-            }
-        }
-        Direction::Refused(_) => a,
-    }
-}
-
-pub(crate) fn checked_crossing(a: Crossing) -> Crossing
-    ensures { told_crossing result ≡ checked9 no_landing landing_finite (told_crossing a) }
-{
-    match a {
-        Crossing::Given(l) => {
-            let p = l.point;
-            if is_finite(l.t) & all_finite(p) {
-                a
-            } else {
-                Crossing::Refused(Refusal::NotFinite)
-            }
-        }
-        Crossing::Refused(_) => a,
+    let value = a?;
+    if value.all_finite() {
+        Ok(value)
+    } else {
+        Err(Refusal::NotFinite)
     }
 }

@@ -5,12 +5,12 @@ ghost use Rattle.surfaces.specs.Surface.{conic_of, chain, limit_of, surface_norm
 ghost use Rattle.surfaces.specs.Parts.{family_of};
 
 use crate::asphere::{raw_even_normal, raw_odd_normal};
-use crate::biconic::{raw_biconic_normal, raw_toroid_normal};
 use crate::conic::{ConicSurface, conic_crossing, normal_at};
-use crate::newton::{Passed, Profile, Progress, ended, newton_chain, profile_limit};
-use crate::refusal::{Direction, Refusal};
+use crate::newton::{Approach, Passed, Profile, Progress};
+use crate::refusal::Refusal;
+use crate::sags::{Biconic, Toroid};
 use crate::snell::{raw_reflect, raw_snell_refract};
-use crate::types::{Polynomial, Ray, Vec3, dot};
+use crate::types::{Polynomial, Ray, Section, Vec3, dot};
 
 // A conic is met in one step.
 pub const STEPS_CONIC: u16 = 1;
@@ -33,37 +33,51 @@ pub struct Surface {
     pub polynomial: Polynomial,
 }
 
+// `Kind` keeps its named numbers, which the theorems on kinds speak of; what follows wants them as sections.
 // A conic is met as a whole, the other kinds by passes.
 #[derive(Clone, Copy)]
 pub(crate) enum Family {
-    Conic { c: f64, k: f64 },
+    Conic(Section),
     Newton(Profile),
 }
 
-fn conic_of(s: Surface, c: f64, k: f64) -> ConicSurface
-    ensures { result ≡ conic_of s c k }
+#[tactic(auto, unfolding(crate::specs::Surface::conic_of))]
+fn conic_of(s: &Surface, base: Section) -> ConicSurface
+    ensures { result ≡ conic_of s.now base.c base.k }
 {
     ConicSurface {
         vertex: s.vertex,
-        curvature: c,
-        conic: k,
+        curvature: base.c,
+        conic: base.k,
         semi: s.semi,
     }
 }
 
-fn family_of(kind: Kind) -> Family
-    ensures { result ≡ family_of kind }
-{
-    match kind {
-        Kind::Conic { c, k } => Family::Conic { c, k },
-        Kind::Asphere { c, k, odd } => Family::Newton(Profile::Asphere { c, k, odd }),
-        Kind::Biconic { cx, kx, cy, ky } => Family::Newton(Profile::Biconic { cx, kx, cy, ky }),
-        Kind::Toroid { rx, cy, ky } => Family::Newton(Profile::Toroid { rx, cy, ky }),
+impl From<Kind> for Family {
+    ghost from_gives = { λ kind f. f ≡ family_of kind };
+
+    fn from(kind: Kind) -> Family {
+        match kind {
+            Kind::Conic { c, k } => Family::Conic(Section { c, k }),
+            Kind::Asphere { c, k, odd } => Family::Newton(Profile::Asphere {
+                base: Section { c, k },
+                odd,
+            }),
+            Kind::Biconic { cx, kx, cy, ky } => Family::Newton(Profile::Biconic(Biconic {
+                x: Section { c: cx, k: kx },
+                y: Section { c: cy, k: ky },
+            })),
+            Kind::Toroid { rx, cy, ky } => Family::Newton(Profile::Toroid(Toroid {
+                rx,
+                base: Section { c: cy, k: ky },
+            })),
+        }
     }
 }
 
 // At most `left` passes of a trace over a surface, one after another until one ends, after `made` of them. A conic is
 // met in one.
+#[tactic(auto, unfolding(crate::specs::Surface::chain_by), using(crate::proofs::Stops::chaining))]
 pub fn chain(s: Surface, ray: Ray, left: u16, made: u16, t: f64) -> Progress
     ensures { told_progress made result ≡ chain s ray left made t }
 {
@@ -73,24 +87,32 @@ pub fn chain(s: Surface, ray: Ray, left: u16, made: u16, t: f64) -> Progress
             taken: 0,
         };
     }
-    let a = s.polynomial;
-    let kind = s.kind;
-    match family_of(kind) {
-        Family::Conic { c, k } => Progress {
-            passed: ended(conic_crossing(ray, conic_of(s, c, k))),
+    match Family::from(s.kind) {
+        Family::Conic(base) => Progress {
+            passed: Passed::Ended(conic_crossing(ray, conic_of(&s, base))),
             taken: 1,
         },
-        Family::Newton(q) => newton_chain(q, a, s.semi, s.vertex, ray, left, made, t),
+        Family::Newton(profile) => {
+            let approach = Approach {
+                profile,
+                polynomial: s.polynomial,
+                semi: s.semi,
+                vertex: s.vertex,
+                ray,
+            };
+            approach.chain(left, made, t)
+        }
     }
 }
 
 // How many passes a surface of a kind may take.
+#[tactic(auto, unfolding(crate::specs::Surface::limit_of), using(crate::proofs::Ways::family_way))]
 pub fn limit(kind: Kind) -> u16
     ensures { result ≡ limit_of kind }
 {
-    match family_of(kind) {
-        Family::Conic { c: _, k: _ } => STEPS_CONIC,
-        Family::Newton(q) => profile_limit(q),
+    match Family::from(kind) {
+        Family::Conic(_) => STEPS_CONIC,
+        Family::Newton(profile) => profile.limit(),
     }
 }
 
@@ -109,33 +131,24 @@ pub struct Leaving {
     pub front: bool,
 }
 
-#[derive(Clone, Copy)]
-pub enum Turned {
-    Given(Leaving),
-    Refused(Refusal),
-}
-
-fn normal(s: Surface, p: Vec3) -> Direction
-    ensures { told_direction result ≡ surface_normal s p }
+#[tactic(auto, unfolding(crate::specs::Surface::surface_normal))]
+fn normal(s: &Surface, p: Vec3) -> Result<Vec3, Refusal>
+    ensures { told_direction result ≡ surface_normal s.now p }
 {
-    let a = s.polynomial;
-    let even = a.even;
-    let kind = s.kind;
-    match kind {
-        Kind::Conic { c, k } => normal_at(p, conic_of(s, c, k)),
-        Kind::Asphere { c, k, odd } => {
-            if odd {
-                raw_odd_normal(c, k, a, p.x, p.y)
-            } else {
-                raw_even_normal(c, k, even, p.x, p.y)
-            }
-        }
-        Kind::Biconic { cx, kx, cy, ky } => raw_biconic_normal(cx, kx, cy, ky, p.x, p.y),
-        Kind::Toroid { rx, cy, ky } => raw_toroid_normal(rx, cy, ky, p.x, p.y),
+    let a = &s.polynomial;
+    match Family::from(s.kind) {
+        Family::Conic(base) => normal_at(p, conic_of(s, base)),
+        Family::Newton(Profile::Asphere { base, odd: true }) => raw_odd_normal(base, a, p.x, p.y),
+        Family::Newton(Profile::Asphere { base, odd: false }) => raw_even_normal(
+            base, &a.even, p.x, p.y,
+        ),
+        Family::Newton(Profile::Biconic(b)) => b.normal(p.x, p.y),
+        Family::Newton(Profile::Toroid(t)) => t.normal(p.x, p.y),
     }
 }
 
-fn onward(incident: Vec3, n: Vec3, b: Boundary) -> Direction
+#[tactic(auto, unfolding(crate::specs::Surface::onward_from))]
+fn onward(incident: Vec3, n: Vec3, b: Boundary) -> Result<Vec3, Refusal>
     ensures { told_direction result ≡ onward_from incident n b }
 {
     match b {
@@ -145,18 +158,15 @@ fn onward(incident: Vec3, n: Vec3, b: Boundary) -> Direction
 }
 
 // What a step of a trace does where a ray has landed: the normal, then reflection or refraction.
-pub fn turn(s: Surface, incident: Vec3, p: Vec3, b: Boundary) -> Turned
+#[tactic(auto, unfolding(crate::specs::Surface::turn_answer), using(crate::proofs::Refusals::refusals))]
+pub fn turn(s: Surface, incident: Vec3, p: Vec3, b: Boundary) -> Result<Leaving, Refusal>
     ensures { told_turned result ≡ turn_answer s incident p b }
 {
-    match normal(s, p) {
-        Direction::Given(n) => match onward(incident, n, b) {
-            Direction::Given(v) => Turned::Given(Leaving {
-                normal: n,
-                direction: v,
-                front: dot(incident, n) < 0.0,
-            }),
-            Direction::Refused(e) => Turned::Refused(e),
-        },
-        Direction::Refused(e) => Turned::Refused(e),
-    }
+    let normal = normal(&s, p)?;
+    let direction = onward(incident, normal, b)?;
+    Ok(Leaving {
+        normal,
+        direction,
+        front: dot(incident, normal) < 0.0,
+    })
 }

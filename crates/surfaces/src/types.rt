@@ -1,7 +1,10 @@
 // Vectors, rays and what a surface is made of, by value. Lengths are in millimetres.
-ghost use Rattle.std.specs.Prelude.{◌≡◌, take};
+ghost use Rattle.std.specs.Prelude.{◌≡◌, ◌≤◌, ◌↔◌, IsTrue, All, Bool, length};
+ghost use Rattle.std.specs.Float.Ieee.Scale.{finite};
+ghost use Rattle.numbers.specs.Arithmetic.{◌+₆₄◌, ◌-₆₄◌, ◌*₆₄◌, ◌/₆₄◌, 1f};
 ghost use Rattle.surfaces.specs.Types.{backwards, ray_of, no_ray, dot_of, vector_length, over_of, point_at, all_finite};
-ghost use Rattle.surfaces.specs.Types.{ray_finite, no_coefficients, no_polynomial, every_finite, coefficients_good};
+ghost use Rattle.surfaces.specs.Types.{ray_finite, both_finite, landing_finite, hit_finite, no_coefficients};
+ghost use Rattle.surfaces.specs.Types.{no_polynomial, coefficients_good, terms};
 
 use numbers::{is_finite, sqrt};
 
@@ -18,6 +21,8 @@ pub struct Ray {
     pub direction: Vec3,
 }
 
+// Six numbers, as C hands a ray over and as the rule takes it.
+#[tactic(auto, unfolding(crate::specs::Types::ray_of))]
 pub fn ray_of(ox: f64, oy: f64, oz: f64, dx: f64, dy: f64, dz: f64) -> Ray
     ensures { result ≡ ray_of ox oy oz dx dy dz }
 {
@@ -36,6 +41,7 @@ pub fn ray_of(ox: f64, oy: f64, oz: f64, dx: f64, dy: f64, dz: f64) -> Ray
 }
 
 // A ray that is none, where an answer has no ray.
+#[tactic(auto, unfolding(crate::specs::Types::ray_of), using(numbers::proofs::Literals::literals))]
 pub fn no_ray() -> Ray
     ensures { result ≡ no_ray }
 {
@@ -49,6 +55,7 @@ pub struct Landing {
     pub point: Vec3,
 }
 
+// The Rust's record: no Landing with more, so that its fields are the Rust's own.
 #[derive(Clone, Copy)]
 pub struct HitRecord {
     pub t: f64,
@@ -64,13 +71,61 @@ pub struct Meridians {
     pub y: f64,
 }
 
+// The conic section of a curvature and a conic constant: a conic's or an asphere's base, or one meridian.
+#[derive(Clone, Copy)]
+pub(crate) struct Section {
+    pub c: f64,
+    pub k: f64,
+}
+
+impl Section {
+    // What is under its root, at so much from the axis, squared.
+    #[tactic(auto, using(numbers::proofs::Literals::literals))]
+    pub(crate) fn radicand(self, r2: f64) -> f64
+        ensures { result ≡ 1f -₆₄ (1f +₆₄ self.k) *₆₄ self.c *₆₄ self.c *₆₄ r2 }
+    {
+        1.0 - (1.0 + self.k) * self.c * self.c * r2
+    }
+
+    // The sag there, from that root.
+    #[tactic(auto, using(numbers::proofs::Literals::literals))]
+    pub(crate) fn sag(self, r2: f64, root: f64) -> f64
+        ensures { result ≡ (self.c *₆₄ r2) /₆₄ (1f +₆₄ root) }
+    {
+        (self.c * r2) / (1.0 + root)
+    }
+}
+
 pub const MOST_COEFFICIENTS: usize = 8;
 
-// The first `count` values are the coefficients, and the others are not read.
+// The first `count` values are the coefficients, and the others are not read. The array is fixed, since there is no
+// heap; a count above 8 is possible, and refused.
 #[derive(Clone, Copy)]
 pub struct Coefficients {
     pub count: usize,
     pub values: [f64; MOST_COEFFICIENTS],
+}
+
+impl Coefficients {
+    pub fn terms(&self) -> &[f64]
+        ensures terms { result.now ≡ terms self.now }
+        ensures most { length result.now ≤ 8 }
+    {
+        &self.values[..self.count.min(MOST_COEFFICIENTS)]
+    }
+
+    // At most 8, all of them finite.
+    pub(crate) fn is_good(&self) -> bool
+        ensures { result ≡ coefficients_good self.now }
+    {
+        (self.count <= MOST_COEFFICIENTS) & row_finite(self.terms())
+    }
+}
+
+fn row_finite(l: &[f64]) -> bool
+    ensures { IsTrue result ↔ All (λ x. IsTrue (finite x)) l.now }
+{
+    l.iter().all(|x| is_finite(*x))
 }
 
 // An asphere's coefficients of even and of odd powers of r, which go about together.
@@ -81,6 +136,7 @@ pub struct Polynomial {
 }
 
 // Against the light, which travels along z.
+#[tactic(auto, using(numbers::proofs::Literals::literals))]
 pub(crate) fn backwards() -> Vec3
     ensures { result ≡ backwards }
 {
@@ -91,18 +147,21 @@ pub(crate) fn backwards() -> Vec3
     }
 }
 
+#[tactic(auto, unfolding(crate::specs::Types::dot_of))]
 pub(crate) fn dot(a: Vec3, b: Vec3) -> f64
     ensures { result ≡ dot_of a b }
 {
     a.x * b.x + a.y * b.y + a.z * b.z
 }
 
+#[tactic(auto, unfolding(crate::specs::Types::vector_length))]
 pub fn length(a: Vec3) -> f64
     ensures { result ≡ vector_length a }
 {
     sqrt(dot(a, a))
 }
 
+#[tactic(auto, unfolding(crate::specs::Types::over_of))]
 pub(crate) fn over(a: Vec3, s: f64) -> Vec3
     ensures { result ≡ over_of a s }
 {
@@ -113,20 +172,68 @@ pub(crate) fn over(a: Vec3, s: f64) -> Vec3
     }
 }
 
-pub fn all_finite(a: Vec3) -> bool
-    ensures { result ≡ all_finite a }
-{
-    is_finite(a.x) & is_finite(a.y) & is_finite(a.z)
+// What has numbers, which are all finite or not.
+pub trait Finite {
+    ghost fine: { Self → Bool };
+
+    fn all_finite(self) -> bool
+        ensures { result ≡ fine self };
 }
 
-pub fn ray_finite(ray: Ray) -> bool
-    ensures { result ≡ ray_finite ray }
-{
-    let o = ray.origin;
-    let d = ray.direction;
-    all_finite(o) & all_finite(d)
+impl Finite for f64 {
+    ghost fine = { finite };
+
+    fn all_finite(self) -> bool {
+        is_finite(self)
+    }
 }
 
+impl Finite for Vec3 {
+    ghost fine = { all_finite };
+
+    #[tactic(auto, unfolding(crate::specs::Types::all_finite))]
+    fn all_finite(self) -> bool {
+        is_finite(self.x) & is_finite(self.y) & is_finite(self.z)
+    }
+}
+
+impl Finite for Ray {
+    ghost fine = { ray_finite };
+
+    #[tactic(auto, unfolding(crate::specs::Types::ray_finite))]
+    fn all_finite(self) -> bool {
+        self.origin.all_finite() & self.direction.all_finite()
+    }
+}
+
+impl Finite for Meridians {
+    ghost fine = { both_finite };
+
+    #[tactic(auto, unfolding(crate::specs::Types::both_finite))]
+    fn all_finite(self) -> bool {
+        is_finite(self.x) & is_finite(self.y)
+    }
+}
+
+impl Finite for Landing {
+    ghost fine = { landing_finite };
+
+    #[tactic(auto, unfolding(crate::specs::Types::landing_finite))]
+    fn all_finite(self) -> bool {
+        is_finite(self.t) & self.point.all_finite()
+    }
+}
+
+impl Finite for HitRecord {
+    ghost fine = { hit_finite };
+
+    #[tactic(auto, unfolding(crate::specs::Types::hit_finite))]
+    fn all_finite(self) -> bool {
+        is_finite(self.t) & self.point.all_finite() & self.normal.all_finite()
+    }
+}
+
+#[tactic(auto, unfolding(crate::specs::Types::point_at))]
 pub(crate) fn point_at(ray: Ray, t: f64) -> Vec3
     ensures { result ≡ point_at ray t }
 {
@@ -137,31 +244,7 @@ pub(crate) fn point_at(ray: Ray, t: f64) -> Vec3
     }
 }
 
-// Whether the first n values, as many as there are, are finite.
-fn first_finite(values: [f64; MOST_COEFFICIENTS], n: usize) -> bool
-    ensures { result ≡ every_finite (take n values) }
-{
-    let mut i = 0usize;
-    while i < MOST_COEFFICIENTS {
-        if n <= i {
-            return true;
-        }
-        if !is_finite(values[i]) {
-            return false;
-        }
-        i += 1;
-    }
-    true
-}
-
-// At most 8 coefficients, all of them finite.
-pub(crate) fn coefficients_good(a: Coefficients) -> bool
-    ensures { result ≡ coefficients_good a }
-{
-    let values = a.values;
-    (a.count <= MOST_COEFFICIENTS) & first_finite(values, a.count)
-}
-
+#[tactic(auto, using(numbers::proofs::Literals::literals))]
 pub fn no_coefficients() -> Coefficients
     ensures { result ≡ no_coefficients }
 {

@@ -19,6 +19,7 @@ fn same(x: f64, y: f64) -> bool
 }
 
 // The root of x, given that of y: the same where x is y.
+#[tactic(auto, unfolding(crate::specs::Parts::root_again))]
 pub(crate) fn root_again(x: f64, y: f64, s: f64) -> f64
     ensures { result ≡ root_again x y s }
 {

@@ -18,7 +18,7 @@ use Rattle.surfaces.specs.Newton.{arrived_at, limited_pass, moved_by, newton_end
 use Rattle.surfaces.specs.Newton.{passes_from, vertex_plane}
 use Rattle.surfaces.specs.Snell.{bent, mirrored, negated_if, reflected, refracted, turned_if}
 use Rattle.surfaces.specs.Surface.{limit_of, onward_from, pass_answer, surface_end, surface_normal, turn_answer}
-use Rattle.surfaces.specs.Types.{all_finite, distance, dot_of, every_finite, over_of, point_at, ray_finite}
+use Rattle.surfaces.specs.Types.{all_finite, dot_of, every_finite, over_of, point_at, ray_finite}
 use Rattle.surfaces.specs.Types.{vector_length}
 use Rattle.trace.specs.Cases.{answered, asked, cases, ending, folded, lens, narrow, on, pointed}
 use Rattle.trace.specs.Example.{beam_record, bytes, patterns, plane_record}
@@ -33,7 +33,7 @@ use Rattle.trace.specs.Wanted.{reach_of}
 pub each_case : agree cases ≡ true
 unfolding cases lens folded pointed narrow on asked ending answered bits ◌over◌ bytes patterns beam_record plane_record
     decimal magnitude negative larger clamped infinite root neg round add sub mul div lt le eq is_nan of_bits to_bits
-    of_int dot_of vector_length over_of distance point_at all_finite ray_finite every_finite turned_if negated_if
+    of_int dot_of vector_length over_of point_at all_finite ray_finite every_finite turned_if negated_if
     mirrored reflected bent refracted landed_within plane_crossing conic_crossing normal_at arrived_at moved_by pass_at
     vertex_plane passes_from newton_end pass_start next_pass limited_pass power_sum_from slope_sum_from base_sag
     base_slope even_sag even_slope radial_slopes even_slopes length_of facing_of normal_of even_facing even_normal

@@ -22,7 +22,7 @@ use Rattle.numbers.proofs.Choice.{either, both, or_else}
 use Rattle.surfaces.proofs.Stops.{pass_stops, pass_limit}
 use Rattle.surfaces.proofs.Chains.{limit_bounds}
 use Rattle.recipe.specs.declared.record.Optic.{Optic}
-use Rattle.recipe.specs.declared.scan.Checked.{Checked}
+use Rattle.recipe.specs.Scan.{Verdict}
 use Rattle.recipe.specs.Scan.{Item, item_at, place_of, notes, nothing, sum_limits}
 use Rattle.recipe.proofs.Chain.{Chain, place_next, place_end, place_at, index_there}
 use Rattle.recipe.proofs.Notes.{notes_count, notes_limits, notes_found}
@@ -168,7 +168,7 @@ module _ (n : ℕ) where
 
 -- what a check notes of the surface that a state is at
 module _ (l : List Item) (end : ℕ) (s : State) where
-  abbrev c : Checked
+  abbrev c : Verdict
   c = notes s.number nothing l
 
   pub count_is : c.count ≡ length l

@@ -20,3 +20,4 @@ mod Reaches
 mod OneSurface
 pub mod Files
 pub mod Long
+mod Unique

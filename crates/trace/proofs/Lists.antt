@@ -1,35 +1,17 @@
 -- Lists that are filled from the front, at any type of element. Assumes nothing.
-use mathlib.Core.Path.{◌≡◌, refl, sym, ◌∙◌, ap, subst}
-use mathlib.Core.List.{List, [], ◌∷◌, ◌++◌, append-nil}
-use Prim.Native.Nat.{ℕ, zero, suc, ◌+◌, ◌-◌, ◌≤◌, ◌<◌}
+use mathlib.Core.Path.{◌≡◌, refl, sym, ◌∙◌, ap}
+use mathlib.Core.List.{List, [], ◌∷◌, ◌++◌}
+use Prim.Native.Nat.{ℕ, zero, suc, ◌+◌, ◌-◌, ◌≤◌}
 use native.Mathlib.Nat.{not-suc-le-zero, le_of_suc-le-suc, sub-zero}
-use native.Mathlib.Numerals.{add-one}
 use native.Mathlib.Omega.{arith}
-use lib.ListN.{length, get_or, set, take, drop, replicate, drop_of_length-le, length-append, length-replicate}
-use lib.Seq.{sets, drop-cons, drop-set-lt, drop-set-add, sets-eq, take_at, drop-append-add}
+use lib.ListN.{length, set, take, drop, replicate, length-append, length-replicate}
+use lib.Seq.{sets, drop-set-lt, drop-set-add, sets-eq, take_at, drop-append-add}
+use Rattle.std.proofs.Common.{append_assoc}
+use Rattle.std.proofs.lemmas.List.Edits.{paste_all}
+use Rattle.std.proofs.lemmas.Slice.{put_mid-paste}
+use borrow.Rule.Slice.PartMut.{put_mid}
 
 module _ {A : Type 0} where
-  fill_suc : (n : ℕ) (v : A) (d : List A) → n < length d
-      → set (replicate n v ++ drop n d) n v ≡ replicate (suc n) v ++ drop (suc n) d
-  fill_suc n v [] l = absurd (not-suc-le-zero l)
-  fill_suc zero v (x ∷ d) l = refl
-  fill_suc (suc n) v (x ∷ d) l = ap (λ (t : List A). v ∷ t) (fill_suc n v d (le_of_suc-le-suc l))
-
-  pub fill_more : (n : ℕ) (v : A) (d b : List A) → n < length d → b ≡ replicate n v ++ drop n d
-      → set b n v ≡ replicate (n + 1) v ++ drop (n + 1) d
-  fill_more n v d b l e =
-      let next = ap (λ (t : List A). set t n v) e ∙ fill_suc n v d l in
-      subst (λ (k : ℕ). set b n v ≡ replicate k v ++ drop k d) (sym (add-one n)) next
-
-  pub fill_end : (n : ℕ) (v : A) (d b : List A) → length d ≤ n → n ≤ length d → b ≡ replicate n v ++ drop n d
-      → b ≡ replicate (length d) v
-  fill_end n v d b p q e =
-      let m : n ≡ length d = omega arith in
-      e
-      ∙ ap (λ (t : List A). replicate n v ++ t) (drop_of_length-le d p)
-      ∙ append-nil (replicate n v)
-      ∙ ap (λ (k : ℕ). replicate k v) m
-
   pub drop_replicate : (n m : ℕ) (v : A) → drop n (replicate m v) ≡ replicate (m - n) v
   drop_replicate zero m v = rw (sub-zero m)
   drop_replicate (suc n) zero v = let e : 0 - suc n ≡ 0 = omega arith in rw e
@@ -45,15 +27,12 @@ module _ {A : Type 0} where
       ∙ ap (λ (a : List A). (w ++ vs) ++ a) (drop-append-add w (replicate m v) (length vs))
       ∙ ap (λ (a : List A). (w ++ vs) ++ a) (drop_replicate (length vs) m v)
 
-  -- one value after another is written
-  pub sets_turn : (l vs : List A) (at i : ℕ) (d : A) → i < length vs
-      → sets l (at + i) (drop i vs) ≡ sets (set l (at + i) (get_or vs i d)) (at + (i + 1)) (drop (i + 1) vs)
-  sets_turn l vs at i d h =
-      let e : at + (i + 1) ≡ suc (at + i) = omega arith in
-      rw (drop-cons vs i d h, e, add-one i)
-
-  pub sets_end : (l vs : List A) (at i : ℕ) → length vs ≤ i → sets l (at + i) (drop i vs) ≡ l
-  sets_end l vs at i h = rw (drop_of_length-le vs h)
+  -- a part of a list is copied over
+  pub put_sets : (l ys vs : List A) (at k : ℕ) → ys ≡ vs → k ≡ length vs → at + length vs ≤ length l
+      → put_mid at k l ys ≡ sets l at vs
+  put_sets l ys vs at k e n h =
+      put_mid-paste at k l ys vs k e refl n ∙ paste_all l at vs k n
+      ∙ rw (n, sets-eq vs l at h) (sym (append_assoc (take at l) vs (drop (at + length vs) l)))
 
   -- what is written before a place, and from it on, as the rest from there sees it
   pub drop_sets_before : (vs l : List A) (i d : ℕ) → i + length vs ≤ d → drop d (sets l i vs) ≡ drop d l

@@ -16,7 +16,7 @@ use Rattle.recipe.specs.Scan.{Item, Scan, refused, items}
 use Rattle.recipe.proofs.Records.{not_1}
 use Rattle.recipe.proofs.Scans.{scan_sound, scan_few}
 use Rattle.recipe.proofs.Cuts.{scan_first}
-use Rattle.trace.specs.declared.wanted.Reached.{Reached}
+use Rattle.trace.specs.Wanted.{Reached}
 use Rattle.trace.specs.Leg.{width}
 use Rattle.trace.specs.Unbroken.{Trace, unbroken}
 use Rattle.trace.specs.Run.{most_records, Reply, reply, recipe_of, items_of, optics_of, blank, beam_of, first_state}

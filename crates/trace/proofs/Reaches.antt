@@ -13,14 +13,14 @@ use lib.Ieee.{Float}
 use borrow.Author.Tests.{ne_eqb, lt-ltb, le-leb, lt-leb}
 use Rattle.numbers.specs.Arithmetic.{0f}
 use Rattle.surfaces.specs.declared.types.Ray.{Ray}
-use Rattle.recipe.specs.declared.scan.Checked.{Checked}
+use Rattle.recipe.specs.Scan.{Verdict}
 use Rattle.recipe.specs.Scan.{Item, Scan, items, items_in, scan, check_of, nothing}
 use Rattle.recipe.proofs.Scans.{scan_sound, scan_few}
 use Rattle.recipe.proofs.Notes.{notes_end}
 use Rattle.recipe.proofs.Chain.{chain_scan}
 use Rattle.recipe.proofs.Cuts.{end_from, end_last, cut_chain, cut_within}
 use Rattle.trace.specs.declared.state.State.{State}
-use Rattle.trace.specs.declared.wanted.Reached.{Reached}
+use Rattle.trace.specs.Wanted.{Reached}
 use Rattle.trace.specs.Leg.{width}
 use Rattle.trace.specs.Unbroken.{unbroken}
 use Rattle.trace.specs.State.{Held, held, standing, advance}
@@ -104,7 +104,7 @@ module _ (b : List ℕ) (ray : Ray) (index : Float) (k : ℕ) (low : k < most_re
 
 -- the answer, by what a check of the records up to k says
 module _ (b : List ℕ) (ray : Ray) (index : Float) (k : ℕ) (low : k < most_records)
-    (c : Checked) (checked : c ≡ check_of b (k + 1) false k) where
+    (c : Verdict) (checked : c ≡ check_of b (k + 1) false k) where
   abbrev upto : List Item
   upto = items_in (up_to b k)
 
@@ -128,7 +128,7 @@ module _ (b : List ℕ) (ray : Ray) (index : Float) (k : ℕ) (low : k < most_re
     counted = (found_items (up_to b k) finds scanned).1
 
     stopped : c.end ≡ end_from 0 upto
-    stopped = ap (λ (d : Checked). d.end) (found_items (up_to b k) finds scanned).0 ∙ notes_end k nothing upto
+    stopped = ap (λ (d : Verdict). d.end) (found_items (up_to b k) finds scanned).0 ∙ notes_end k nothing upto
 
     pub reach_short : c.count ≤ k → refused_reach 2 0 ≡ reach_of b ray index k
     reach_short i = past scanned _ (rw (le-leb (length upto) k (omega (arith, counted))))
@@ -141,14 +141,14 @@ module _ (b : List ℕ) (ray : Ray) (index : Float) (k : ℕ) (low : k < most_re
       reach_ray {n} e g = past scanned _ (rw (there, ← e, ne_eqb n 1 g))
 
 -- all that is asked before the walk
-pub record Asked (b : List ℕ) (ray : Ray) (index : Float) (k : ℕ) (c : Checked) : Type 0 where
+pub record Asked (b : List ℕ) (ray : Ray) (index : Float) (k : ℕ) (c : Verdict) : Type 0 where
   pub low : k < most_records
   pub checked : c ≡ check_of b (k + 1) false k
   pub good : c.number ≡ 1
   pub there : k < c.count
   pub beam : ray_admission ray index ≡ 1
 
-module _ {b : List ℕ} {ray : Ray} {index : Float} {k : ℕ} {c : Checked} (a : Asked b ray index k c) where
+module _ {b : List ℕ} {ray : Ray} {index : Float} {k : ℕ} {c : Verdict} (a : Asked b ray index k c) where
   abbrev l : List Item
   l = upto b ray index k a.low c a.checked
 

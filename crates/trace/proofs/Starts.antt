@@ -10,20 +10,28 @@ use lib.ListN.{length}
 use lib.Dec.{eqb, ltb}
 use lib.Ieee.{Float}
 use lib.Ieee.Scale.{finite}
-use borrow.Author.Tests.{eq-eqb, ne_eqb, lt-ltb, le-ltb, eqb-true, eqb-false, ltb-false}
+use borrow.Author.Tests.{eq-eqb, ne_eqb, lt-ltb, le-ltb, eqb-true, eqb-false, ltb-true, ltb-false}
 use Rattle.numbers.specs.Arithmetic.{◌≤₆₄◌, 0f, decimal}
 use Rattle.surfaces.specs.Types.{ray_finite}
 use Rattle.surfaces.specs.declared.types.Ray.{Ray}
 use Rattle.numbers.proofs.Choice.{both}
 use Rattle.surfaces.proofs.Chains.{limit_bounds}
+use Rattle.recipe.specs.declared.fault.Fault.{Fault}
+use Rattle.recipe.specs.declared.fault.Fault.TheVariants.{BadParameter, NegativeSemiDiameter, Singular, Malformed}
 use Rattle.recipe.specs.declared.scan.Checked.{Checked}
-use Rattle.recipe.specs.Scan.{Item, Scan, refused, items, notes, nothing, says, check_of, items_in, sum_limits}
+use Rattle.recipe.specs.declared.scan.Refused.{Refused}
+use Rattle.recipe.specs.Fault.{fault_number}
+use Rattle.recipe.specs.Scan.{Item, Scan, refused, items, Verdict, failed, notes, nothing, says, check_of, passed}
+use Rattle.recipe.specs.Scan.{items_in, sum_limits}
 use Rattle.recipe.proofs.Records.{not_1}
 use Rattle.recipe.proofs.Notes.{notes_answer, notes_count}
 use Rattle.recipe.proofs.Scans.{Sound, scan_sound, scan_few}
+use Rattle.trace.specs.declared.refusal.Why.{Why}
+use Rattle.trace.specs.declared.refusal.Why.TheVariants as why
 use Rattle.trace.specs.declared.state.State.{State}
-use Rattle.trace.specs.declared.run.Answer.{Answer}
+use Rattle.trace.specs.Run.{Answer}
 use Rattle.trace.specs.Leg.{width}
+use Rattle.trace.specs.Refusal.{why_number}
 use Rattle.trace.specs.State.{Held, held, advance, beam_good, fits_of}
 use Rattle.trace.specs.Run.{most_records, Reply, reply, blank, recipe_of, items_of, beam_of, first_state}
 use Rattle.trace.specs.Run.{refused_answer, refused_reply, ray_admission, admission, admitted, begun_of, start_at}
@@ -31,29 +39,58 @@ use Rattle.trace.specs.Run.{accept, continue_on, continue_of}
 use Rattle.trace.specs.Parts.{Ready}
 use Rattle.trace.proofs.Fits.{good_beam, fits_fit, few_steps}
 
+-- no refusal is told by 1
+pub fault_not_1 : (f : Fault) → fault_number f ≢ 1
+fault_not_1 BadParameter e = omega arith
+fault_not_1 NegativeSemiDiameter e = omega arith
+fault_not_1 Singular e = omega arith
+fault_not_1 Malformed e = omega arith
+
+pub why_not_1 : (w : Why) → why_number w ≢ 1
+why_not_1 (why.Fault f) e = fault_not_1 f e
+why_not_1 why.BufferTooShort e = omega arith
+why_not_1 why.StateDoesNotFit e = omega arith
+
+-- whether a room was long enough, by what its test tells
+pub too_short : (w : Why) (room count : ℕ) → why_number w ≡ (if ltb room (width * count) then 11 else 1)
+    → (why_number w ≡ 11) × (room < width * count)
+too_short w room count = by (ltb room (width * count)) refl
+  where
+    by : (t : Bool) → ltb room (width * count) ≡ t → why_number w ≡ (if t then 11 else 1)
+        → (why_number w ≡ 11) × (room < width * count)
+    by true t e = (e, ltb-true _ _ t)
+    by false t e = absurd (why_not_1 w e)
+
+pub long_enough : (room count : ℕ) → ◌≡◌ {A = ℕ} 1 (if ltb room (width * count) then 11 else 1) → width * count ≤ room
+long_enough room count = by (ltb room (width * count)) refl
+  where
+    by : (t : Bool) → ltb room (width * count) ≡ t → ◌≡◌ {A = ℕ} 1 (if t then 11 else 1) → width * count ≤ room
+    by true t e = absurd (omega arith)
+    by false t e = ltb-false _ _ t
+
 no_items : {n p : ℕ} {l : List Item} → refused n p ≡ items l → ⊥
 no_items e = let z : ◌≡◌ {A = ℕ} 0 1 = cc in omega arith
 
 -- what a check says of the recipe
-pub data Finding (w : ℕ) (c : Checked) : Scan → Type 0 where
+pub data Finding (w : ℕ) (c : Verdict) : Scan → Type 0 where
   finds_bad : {n p : ℕ} → c.number ≡ n → c.place ≡ p → c.number ≢ 1 → Finding w c (refused n p)
   finds_good : {l : List Item} → c ≡ notes w nothing l → c.number ≡ 1 → c.count ≡ length l → Finding w c (items l)
 
-pub found : (w : ℕ) (c : Checked) (r : Scan) → Sound r → c ≡ says w nothing r → Finding w c r
+pub found : (w : ℕ) (c : Verdict) (r : Scan) → Sound r → c ≡ says w nothing r → Finding w c r
 found w c (refused n p) h e =
-    let number = ap (λ (k : Checked). k.number) e in
-    finds_bad number (ap (λ (k : Checked). k.place) e) (λ q. not_1 h (sym number ∙ q))
+    let number = ap (λ (k : Verdict). k.number) e in
+    finds_bad number (ap (λ (k : Verdict). k.place) e) (λ q. not_1 h (sym number ∙ q))
 found w c (items l) h e =
-    let number = ap (λ (k : Checked). k.number) e in
-    let count = ap (λ (k : Checked). k.count) e in
+    let number = ap (λ (k : Verdict). k.number) e in
+    let count = ap (λ (k : Verdict). k.count) e in
     finds_good e (number ∙ (notes_answer w nothing l).0) (omega (arith, count, notes_count w nothing l))
 
-pub finding : (b : List ℕ) (w : ℕ) (c : Checked) → c ≡ check_of b most_records true w → Finding w c (recipe_of b)
+pub finding : (b : List ℕ) (w : ℕ) (c : Verdict) → c ≡ check_of b most_records true w → Finding w c (recipe_of b)
 unfolding check_of
 finding b w c e = found w c (recipe_of b) (scan_sound true b most_records 0) e
 
 -- what it says by its number, and of the surfaces
-module _ {w : ℕ} {c : Checked} where
+module _ {w : ℕ} {c : Verdict} where
   pub found_bad : (r : Scan) → Finding w c r → c.number ≢ 1 → r ≡ refused c.number c.place
   found_bad (refused n p) (finds_bad e f g) h = rw (e, f)
   found_bad (items l) (finds_good e n k) h = absurd (h n)
@@ -74,7 +111,7 @@ beside : (z : List Float) (accept : Answer) (n : ℕ) (t : Bool)
 beside z accept n true = refl
 beside z accept n false = refl
 
-begun : (c : Checked) (r : Scan) → Finding 0 c r → (base : ℕ) (ray : Ray) (index : Float) (z : List Float)
+begun : (c : Verdict) (r : Scan) → Finding 0 c r → (base : ℕ) (ray : Ray) (index : Float) (z : List Float)
     → record { answer = begun_of c base ray index (length z); buffer = z }
     ≡ admitted r base ray index z (λ l. reply 1 0 (first_state (length l) (beam_of ray index)) z)
 unfolding begun_of
@@ -84,12 +121,31 @@ begun c (items l) (finds_good e n k) base ray index z =
     let started : Answer = record { number = 1; place = 0; state = first_state (length l) (beam_of ray index) } in
     rw (eq-eqb c.number 1 n, k) (beside z started a (eqb a 1))
 
-pub start_is : (b : List ℕ) (c : Checked) → c ≡ check_of b most_records true 0
+pub start_is : (b : List ℕ) (c : Verdict) → c ≡ check_of b most_records true 0
     → (base : ℕ) (ray : Ray) (index : Float) (z y : List Float) (a : Answer) → y ≡ blank z
     → a ≡ begun_of c base ray index (length y) → record { answer = a; buffer = y } ≡ start_at base b ray index z
 unfolding start_at
 start_is b c e base ray index z y a blanked q =
     rw (q, blanked) (begun c (recipe_of b) (finding b 0 c e) base ray index (blank z))
+
+-- by the result of a check, whose refusal is handed on with its place from `base` on
+pub bad_begun : (e : Refused) (base place : ℕ) (ray : Ray) (index : Float) (room : ℕ) → place ≡ base + e.place
+    → refused_answer (fault_number e.fault) place ≡ begun_of (failed (fault_number e.fault) e.place) base ray index room
+unfolding begun_of
+bad_begun e base place ray index room at = rw (ne_eqb (fault_number e.fault) 1 (fault_not_1 e.fault), at)
+
+module _ (b : List ℕ) (base : ℕ) (ray : Ray) (index : Float) (z y : List Float) (blanked : y ≡ blank z) where
+  pub start_fails : (e : Refused) → failed (fault_number e.fault) e.place ≡ check_of b most_records true 0
+      → (place : ℕ) → place ≡ base + e.place
+      → record { answer = refused_answer (fault_number e.fault) place; buffer = y } ≡ start_at base b ray index z
+  start_fails e checked place at =
+      start_is b _ checked base ray index z y _ blanked (bad_begun e base place ray index (length y) at)
+
+  pub start_begins : (c : Checked) → passed c ≡ check_of b most_records true 0
+      → (a : Answer) → a ≡ begun_of (passed c) 0 ray index (length y)
+      → record { answer = a; buffer = y } ≡ start_at base b ray index z
+  unfolding begun_of
+  start_begins c checked a begun = start_is b (passed c) checked base ray index z y a blanked begun
 
 -- an accepted start
 pub record Admitted (r : Scan) (ray : Ray) (index : Float) (z : List Float) : Type 0 where
@@ -166,7 +222,7 @@ module _ (base : ℕ) (ray : Ray) (index : Float) (z : List Float) where
   refused_alike (items l) f g a h = alike (eqb (admission ray index (length z) (length l)) 1) (f l) (g l) _ (a l) h
 
 -- continue
-module _ (b : List ℕ) (s : State) (z : List Float) (k : ℕ) (c : Checked)
+module _ (b : List ℕ) (s : State) (z : List Float) (k : ℕ) (c : Verdict)
     (e : c ≡ check_of b most_records true s.number) where
   finds : Finding s.number c (recipe_of b)
   finds = finding b s.number c e

@@ -17,7 +17,7 @@ use Rattle.surfaces.specs.Surface.{limit_of}
 use Rattle.numbers.proofs.Choice.{both, one_false, or_else}
 use Rattle.surfaces.proofs.Chains.{limit_bounds}
 use Rattle.numbers.proofs.Lists.{each}
-use Rattle.recipe.specs.declared.scan.Checked.{Checked}
+use Rattle.recipe.specs.Scan.{Verdict}
 use Rattle.recipe.specs.Scan.{Item, item_at, notes, nothing}
 use Rattle.recipe.proofs.Chain.{place_at, place_end}
 use Rattle.trace.specs.declared.state.State.{State}
@@ -69,7 +69,7 @@ stops_listed n h = by (eqb n 2) refl h
         or_else (eqb n 0) _ (or_else (eqb n 1) _ (or_else (eqb n 2) _ listed))
 
 module _ (l : List Item) (end : ℕ) (s : State) where
-  abbrev c : Checked
+  abbrev c : Verdict
   c = notes s.number nothing l
 
   misplaced : place_fits c end s ≡ false → Unfit l end s

@@ -1,6 +1,6 @@
 -- A walk over surfaces with the passes inside: what it relies on, and that it goes as far as it is allowed to. Assumes
 -- nothing.
-use Rattle.std.specs.Prelude.{if◌then◌else◌}
+use Rattle.std.specs.Prelude.{if◌then◌else◌, Option, Some, None, IsSome}
 use Prim.Native.Nat.{ℕ, zero, suc, ◌+◌, ◌-◌, ◌*◌, ◌≤◌, ◌<◌, zero-le}
 use mathlib.Core.Path.{◌≡◌, refl, sym, ◌∙◌, ap, subst}
 use mathlib.Core.List.{List}
@@ -15,7 +15,7 @@ use Rattle.surfaces.specs.Surface.{pass_answer, chain_by, chain}
 use Rattle.surfaces.specs.declared.types.Landing.{Landing}
 use Rattle.surfaces.proofs.Chains.{limit_bounds}
 use Rattle.recipe.specs.declared.record.ReadRecord.{ReadRecord}
-use Rattle.recipe.specs.Record.{read_at}
+use Rattle.recipe.specs.Record.{ReadRow, no_row, told_record, read_at}
 use Rattle.recipe.specs.Scan.{Item, items, item_at, place_of}
 use Rattle.recipe.proofs.Records.{good_read}
 use Rattle.recipe.proofs.Chain.{Chain, record_there}
@@ -78,7 +78,7 @@ module _ (b : List ℕ) (count : ℕ) where
     level : made + h.state.steps ≡ h.state.passes + steps
 
   -- the record of the surface that h stands on, as it is read
-  abbrev read_of : Held → ReadRecord
+  abbrev read_of : Held → ReadRow
   read_of h =
       let i = item_at l h.state.number in record { number = 1; next = i.next; optic = i.optic }
 
@@ -136,7 +136,7 @@ module _ (b : List ℕ) (count : ℕ) where
           }
 
       -- the surface's end, with a record that was read where it stands
-      module _ (g : going (pass h made t) ≡ false) (counted : count ≡ length l) {read : ReadRecord}
+      module _ (g : going (pass h made t) ≡ false) (counted : count ≡ length l) {read : ReadRow}
           (i : read ≡ read_of h) (h' : Held)
           (by : h' ≡ surface_left h read.next count read.optic (pass h made t) (made + 1) (steps + 1)) where
         off : move l now ≡ h'
@@ -213,7 +213,7 @@ module _ (b : List ℕ) (count : ℕ) where
         pauses (ends p g) k w = absurd (false≢true (sym g ∙ w))
 
         pub leaves : {e : Ended} → Came h left₀ e → e.passes ≡ h.state.passes + taken → going e.answer ≡ false
-            → {read : ReadRecord} → read ≡ read_of h → (h' : Held)
+            → {read : ReadRow} → read ≡ read_of h → (h' : Held)
             → h' ≡ surface_left h read.next count read.optic e.answer (h.state.passes + taken)
             (h.state.steps + taken)
             → {allowed : ℕ} {h₀ : Held} → Runs allowed h₀ h left₀ → Runs allowed h₀ h' (left₀ - taken)
@@ -229,17 +229,22 @@ module _ (b : List ℕ) (count : ℕ) where
       number_low : h.state.number < length l
       number_low = low b l (chain_of b good) h r.fit run
 
-      pub read_is : (read : ReadRecord) → read ≡ read_at b h.state.place → read ≡ read_of h
+      pub read_is : (read : ReadRow) → read ≡ read_at b h.state.place → read ≡ read_of h
       read_is read e =
           let there = record_there b (chain_of b good) h.state.number number_low in
           e ∙ ap (λ (p : ℕ). read_at b p) r.fit.place
           ∙ good_read b (place_of l (length b) h.state.number) there
 
+      -- which there is
+      pub there : (o : Option ReadRecord) → told_record o ≡ read_at b h.state.place → IsSome o
+      there (Some read) e = refl
+      there None e = let n = ap (λ (r : ReadRow). r.number) (read_is no_row e) in absurd (omega (arith, n))
+
       -- where the record of the surface goes
       pub room : (width * h.state.number + width ≤ length h.buffer) × (h.state.number < count)
       room = (omega (arith, number_low, r.counted, r.fits), omega (arith, number_low, r.counted))
 
-      pub came : (read : ReadRecord) → read ≡ read_at b h.state.place
+      pub came : (read : ReadRow) → read ≡ read_at b h.state.place
           → Came h left (chain read.optic.surface h.state.beam.ray left h.state.passes h.state.t)
       came read e =
           let less : suc (left - 1) ≡ left = omega (arith, some) in

@@ -10,11 +10,11 @@ use lib.ListN.{length, length-replicate}
 use lib.Ieee.{Float}
 use Rattle.numbers.specs.Arithmetic.{0f}
 use Rattle.surfaces.specs.declared.types.Ray.{Ray}
-use Rattle.recipe.specs.declared.scan.Checked.{Checked}
+use Rattle.recipe.specs.Scan.{Verdict}
 use Rattle.recipe.specs.Scan.{check_of, place_of}
 use Rattle.recipe.proofs.Scans.{scan_sound}
 use Rattle.trace.specs.declared.state.State.{State}
-use Rattle.trace.specs.declared.run.Answer.{Answer}
+use Rattle.trace.specs.Run.{Answer}
 use Rattle.trace.specs.Leg.{width}
 use Rattle.trace.specs.Unbroken.{Trace, Mark, unbroken, total, rows, padded}
 use Rattle.trace.specs.State.{Held, held, standing, advance}
@@ -58,7 +58,7 @@ module _ (y : List ℕ) (ray : Ray) (index : Float) (z : List Float)
       ∙ ap (λ (l : List Mark). padded (length z) (rows l)) (finished_all u.marks 65535 enough)
 
 module _ (y : List ℕ) (ray : Ray) (index : Float) (z : List Float)
-    (c : Checked) (checked : c ≡ check_of y most_records true 0)
+    (c : Verdict) (checked : c ≡ check_of y most_records true 0)
     (w : List Float) (blanked : w ≡ blank z)
     (a : Answer) (begun : a ≡ begun_of c 0 ray index (length w)) where
   started : record { answer = a; buffer = w } ≡ start_at 0 y ray index z

@@ -12,7 +12,7 @@ use Rattle.surfaces.specs.declared.types.Vec3.{Vec3}
 use Rattle.surfaces.specs.declared.types.Ray.{Ray}
 use Rattle.trace.specs.declared.leg.Beam.{Beam}
 use Rattle.trace.specs.declared.state.State.{State}
-use Rattle.trace.specs.declared.wanted.Reached.{Reached}
+use Rattle.trace.specs.Wanted.{Reached}
 use Rattle.trace.specs.Run.{recipe_of, Reply, start_of}
 use Rattle.trace.specs.Run.{continue_on, continue_of, whole_of}
 use Rattle.trace.specs.Wanted.{reach_of}

@@ -14,7 +14,7 @@ use Rattle.recipe.specs.Record.{good, record_at}
 use Rattle.recipe.specs.Scan.{Item, items, item_at, sum_limits}
 use Rattle.recipe.specs.Source.{source_bytes}
 use Rattle.trace.specs.declared.state.State.{State}
-use Rattle.trace.specs.declared.wanted.Reached.{Reached}
+use Rattle.trace.specs.Wanted.{Reached}
 use Rattle.trace.specs.Leg.{width}
 use Rattle.trace.specs.Run.{Reply, recipe_of, items_of, no_beam, start_of, continue_of, whole_of}
 use Rattle.trace.specs.Wanted.{reach_of}

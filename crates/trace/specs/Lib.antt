@@ -1,9 +1,11 @@
 pub mod Leg
 pub mod Unbroken
 pub mod State
+pub mod Refusal
 pub mod Run
 pub mod Wanted
 pub mod File
+pub mod Told
 pub mod Parts
 pub mod Demand1
 pub mod Demand3

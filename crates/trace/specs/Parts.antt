@@ -1,21 +1,32 @@
 -- What the parts of the code say to each other; no promise of the crate cites it. Definitions only.
-use Rattle.std.specs.Prelude.{ℕ, ◌*◌, ◌≤◌, ◌<◌, ◌≡◌, true, List, length, replicate, drop, Float}
+use Rattle.std.specs.Prelude.{ℕ, ◌*◌, ◌≤◌, ◌<◌, ◌≡◌, true, List, length, replicate, drop, Float, Result, Ok, Err, ⊤}
 use Rattle.numbers.specs.Arithmetic.{0f}
-use Rattle.surfaces.specs.Refusal.{Told, gives, refused, stops, line_of}
+use Rattle.surfaces.specs.Refusal.{Told, told, stops}
 use Rattle.surfaces.specs.Surface.{limit_of}
+use Rattle.surfaces.specs.declared.refusal.Refusal.{Refusal}
 use Rattle.recipe.specs.Scan.{Item, items, item_at, place_of}
-use Rattle.trace.specs.declared.leg.Ending.{Ending}
-use Rattle.trace.specs.declared.leg.Ending.TheVariants as ending
+use Rattle.recipe.specs.declared.fault.Fault.{Fault}
+use Rattle.recipe.specs.Fault.{fault_number}
 use Rattle.trace.specs.declared.leg.Leg.{Leg}
+use Rattle.trace.specs.declared.refusal.Why.{Why}
+use Rattle.trace.specs.Refusal.{why_number}
 use Rattle.trace.specs.declared.state.State.{State}
 use Rattle.trace.specs.Leg.{no_leg, width}
 use Rattle.trace.specs.State.{Held, held, beam_good}
 use Rattle.trace.specs.Run.{recipe_of, items_of}
 
 -- what the end of a surface tells
-abbrev pub told_ending : Ending → Told Leg
-told_ending (ending.Given g) = gives g
-told_ending (ending.Refused e) = refused no_leg (line_of e)
+abbrev pub told_leg : Result Leg Refusal → Told Leg
+told_leg = told no_leg
+
+-- what a test tells by its fault, or by why a call is refused
+abbrev pub told_fault : Result ⊤ Fault → ℕ
+told_fault (Ok x) = 1
+told_fault (Err f) = fault_number f
+
+abbrev pub told_why : Result ⊤ Why → ℕ
+told_why (Ok x) = 1
+told_why (Err w) = why_number w
 
 -- where a state stands that a walk goes on from: on a surface, at the recipe's end, or at a refusal
 pub data Stands (l : List Item) (s : State) : Type 0 where

@@ -1,17 +1,18 @@
 -- What start and continue answer, and what they leave in the result buffer, on every input. Definitions only.
 use Rattle.std.specs.Prelude.{ℕ, ◌+◌, ◌*◌, List, map, true, not, ◌&&◌, length, replicate, eqb, ltb, Float}
-use Rattle.std.specs.Prelude.{if◌then◌else◌}
+use Rattle.std.specs.Prelude.{if◌then◌else◌, Result, Ok, Err}
 use Rattle.std.specs.Float.Ieee.Scale.{finite}
 use Rattle.numbers.specs.Arithmetic.{◌≤₆₄◌, 0f}
 use Rattle.surfaces.specs.Types.{no_ray, ray_finite}
 use Rattle.surfaces.specs.declared.types.Ray.{Ray}
 use Rattle.recipe.specs.declared.record.Optic.{Optic}
-use Rattle.recipe.specs.declared.scan.Checked.{Checked}
+use Rattle.recipe.specs.Scan.{Verdict}
 use Rattle.recipe.specs.Scan.{Item, Scan, refused, items, scan, notes, nothing, place_of, items_in}
 use Rattle.trace.specs.declared.leg.Beam.{Beam}
 use Rattle.trace.specs.declared.state.State.{State}
-use Rattle.trace.specs.declared.run.Answer.{Answer}
+use Rattle.trace.specs.declared.refusal.Refused.{Refused}
 use Rattle.trace.specs.Leg.{width}
+use Rattle.trace.specs.Refusal.{why_number}
 use Rattle.trace.specs.State.{Held, held, standing, advance, fits_of}
 use Rattle.trace.specs.Unbroken.{unbroken, total, rows, padded}
 
@@ -21,6 +22,12 @@ most_records = 512
 
 abbrev pub recipe_of : List ℕ → Scan
 recipe_of b = scan true b most_records 0
+
+-- 1 or the refusal, the refused record's place, and the state
+pub record Answer : Type 0 where
+  pub number : ℕ
+  pub place : ℕ
+  pub state : State
 
 pub record Reply : Type 0 where
   pub answer : Answer
@@ -38,6 +45,18 @@ no_beam = record { ray = no_ray; index = 0f; path = 0f }
 
 unfoldable pub refused_answer : ℕ → ℕ → Answer
 refused_answer n p = record { number = n; place = p; state = standing 0 0 no_beam 0 n }
+
+-- what a start's result tells, and a continuation's from a state: a refused one keeps it
+abbrev pub accepted : State → Answer
+accepted s = record { number = 1; place = 0; state = s }
+
+abbrev pub told_start : Result State Refused → Answer
+told_start (Ok s) = accepted s
+told_start (Err r) = refused_answer (why_number r.why) r.place
+
+abbrev pub told_continue : State → Result State Refused → Answer
+told_continue from (Ok s) = accepted s
+told_continue from (Err r) = record { number = why_number r.why; place = r.place; state = from }
 
 abbrev pub refused_reply : ℕ → ℕ → List Float → Reply
 refused_reply n p z = record { answer = refused_answer n p; buffer = z }
@@ -70,7 +89,7 @@ abbrev pub first_state : ℕ → Beam → State
 first_state count b = standing 0 0 b 0 (if eqb 0 count then 1 else 0)
 
 -- what a start answers, by what a check says of the recipe and how much room there is
-unfoldable pub begun_of : Checked → ℕ → Ray → Float → ℕ → Answer
+unfoldable pub begun_of : Verdict → ℕ → Ray → Float → ℕ → Answer
 begun_of c base ray index room =
     let n = admission ray index room c.count in
     if not (eqb c.number 1) then refused_answer c.number (base + c.place) else

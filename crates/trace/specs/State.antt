@@ -10,7 +10,7 @@ use Rattle.surfaces.specs.Newton.{going}
 use Rattle.surfaces.specs.Surface.{pass_answer}
 use Rattle.surfaces.specs.declared.types.Landing.{Landing}
 use Rattle.recipe.specs.declared.record.Optic.{Optic}
-use Rattle.recipe.specs.declared.scan.Checked.{Checked}
+use Rattle.recipe.specs.Scan.{Verdict}
 use Rattle.recipe.specs.Scan.{Item, item_at}
 use Rattle.trace.specs.declared.leg.Beam.{Beam}
 use Rattle.trace.specs.declared.leg.Leg.{Leg}
@@ -72,20 +72,20 @@ outcome_known n = leb n 2 || leb 4 n && leb n 9
 
 -- under outcome 1 the number is the count of records and the place the recipe's end; under another the place is that
 -- of the record with that number
-unfoldable pub place_fits : Checked → ℕ → State → Bool
+unfoldable pub place_fits : Verdict → ℕ → State → Bool
 place_fits c end s =
     if eqb s.outcome 1 then eqb s.number c.count && eqb s.place end else
     ltb s.number c.count && eqb s.place c.found
 
 -- the pass count is below that surface's limit and, once ended, 0
-unfoldable pub passes_fit : Checked → State → Bool
+unfoldable pub passes_fit : Verdict → State → Bool
 passes_fit c s = if eqb s.outcome 0 then ltb s.passes c.limit else eqb s.passes 0
 
 -- ray and path are finite, the index finite and above 0
 unfoldable pub beam_good : Beam → Bool
 beam_good b = ray_finite b.ray && finite b.path && finite b.index && not (b.index ≤₆₄ 0f)
 
-unfoldable pub fits_of : Checked → ℕ → State → Bool
+unfoldable pub fits_of : Verdict → ℕ → State → Bool
 fits_of c end s =
     outcome_known s.outcome
     && place_fits c end s

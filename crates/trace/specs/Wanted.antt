@@ -1,18 +1,31 @@
 -- What a question for one surface's record answers, on every input. Definitions only.
 use Rattle.std.specs.Prelude.{ℕ, suc, List, map, false, length, get_or, replicate, eqb, leb, Float, if◌then◌else◌}
+use Rattle.std.specs.Prelude.{Result, Ok, Err}
 use Rattle.numbers.specs.Arithmetic.{0f}
 use Rattle.surfaces.specs.declared.types.Ray.{Ray}
 use Rattle.recipe.specs.Scan.{Scan, refused, items, scan}
-use Rattle.trace.specs.declared.wanted.Reached.{Reached}
+use Rattle.trace.specs.declared.refusal.Refused.{Refused}
 use Rattle.trace.specs.Leg.{width}
+use Rattle.trace.specs.Refusal.{why_number}
 use Rattle.trace.specs.Unbroken.{Mark, unbroken}
 use Rattle.trace.specs.Run.{most_records, optics_of, beam_of, ray_admission}
+
+-- 1 or the refusal, the refused record's place, and the surface's record, blank where the beam ended before it
+pub record Reached : Type 0 where
+  pub number : ℕ
+  pub place : ℕ
+  pub row : List Float
 
 abbrev pub no_row : List Float
 no_row = replicate width 0f
 
 abbrev pub refused_reach : ℕ → ℕ → Reached
 refused_reach n p = record { number = n; place = p; row = no_row }
+
+-- what the result for one surface tells
+abbrev pub told_reach : Result (List Float) Refused → Reached
+told_reach (Ok z) = record { number = 1; place = 0; row = z }
+told_reach (Err r) = refused_reach (why_number r.why) r.place
 
 -- surface k's record among a trace's, blank where the beam ended earlier
 abbrev pub row_at : List Mark → ℕ → List Float

@@ -1,17 +1,13 @@
 // A beam's way to a surface and on from it, and the record that it leaves.
-ghost use Rattle.std.specs.Prelude.{◌≡◌, if◌then◌else◌};
-ghost use Rattle.numbers.specs.Arithmetic.{0f, 1f};
+ghost use Rattle.std.specs.Prelude.{◌≡◌};
 ghost use Rattle.surfaces.specs.Refusal.{gives, checked9, told_crossing};
 ghost use Rattle.trace.specs.Leg.{no_leg, boundary_of, share, leg_finite, leg_of, beam_after, hit_row, refusal_row};
 ghost use Rattle.trace.specs.Leg.{row_of};
-ghost use Rattle.trace.specs.Parts.{told_ending};
+ghost use Rattle.trace.specs.Parts.{told_leg};
 
 use numbers::is_finite;
 use recipe::Optic;
-use surfaces::{
-    Boundary, Crossing, Landing, Line, Ray, Refusal, Turned, Vec3, all_finite, length, line_of,
-    turn,
-};
+use surfaces::{Boundary, Finite, Landing, Line, Ray, Refusal, Vec3, checked, length, turn};
 
 // The slots of a result record, of which point, normal and direction have three each, and how many there are.
 pub const RECORD_STATUS: usize = 0;
@@ -35,7 +31,7 @@ pub const RECORD_R: usize = 1;
 
 pub const RECORD_LIMIT: usize = 2;
 
-// The status of a record that is not finished, and of a hit; a refusal's is its number.
+// The status of a record that is not finished, and of a hit, as the C header has them; a refusal's is its number.
 pub const BLANK: f64 = 0.0;
 
 pub const HIT: f64 = 1.0;
@@ -48,7 +44,7 @@ pub struct Beam {
     pub path: f64,
 }
 
-// A hit: so far along the ray, where, and how the beam goes on.
+// A hit: so far along the ray, where, and how the beam goes on. Its fields are those that the rules on records name.
 #[derive(Clone, Copy)]
 pub struct Leg {
     pub t: f64,
@@ -59,12 +55,7 @@ pub struct Leg {
     pub path: f64,
 }
 
-#[derive(Clone, Copy)]
-pub(crate) enum Ending {
-    Given(Leg),
-    Refused(Refusal),
-}
-
+#[tactic(auto, unfolding(crate::specs::Leg::boundary_of))]
 fn boundary(o: Optic, index: f64) -> Boundary
     ensures { result ≡ boundary_of o index }
 {
@@ -80,99 +71,68 @@ fn boundary(o: Optic, index: f64) -> Boundary
 
 // A surface's share of the path (SCOPE C11), by its number and the beam before it: t counts lengths of the direction,
 // which behind a surface is a unit vector.
+#[tactic(auto, unfolding(crate::specs::Leg::share))]
 fn share(number: usize, b: Beam, t: f64) -> f64
     ensures { result ≡ share number b t }
 {
     if number == 0 {
-        let ray = b.ray;
-        let d = ray.direction;
-        t * length(d) * b.index
+        t * length(b.ray.direction) * b.index
     } else {
         t * b.index
     }
 }
 
-fn leg_finite(g: Leg) -> bool
-    ensures { result ≡ leg_finite g }
-{
-    let p = g.point;
-    let n = g.normal;
-    let d = g.direction;
-    is_finite(g.t) & all_finite(p) & all_finite(n) & all_finite(d) & is_finite(g.path)
-}
+impl Finite for Leg {
+    ghost fine = { leg_finite };
 
-fn checked(g: Leg) -> Ending
-    ensures { told_ending result ≡ checked9 no_leg leg_finite (gives g) }
-{
-    if leg_finite(g) {
-        Ending::Given(g)
-    } else {
-        Ending::Refused(Refusal::NotFinite)
+    #[tactic(auto, unfolding(crate::specs::Leg::leg_finite))]
+    fn all_finite(self) -> bool {
+        is_finite(self.t)
+            & self.point.all_finite()
+            & self.normal.all_finite()
+            & self.direction.all_finite()
+            & is_finite(self.path)
     }
 }
 
-// The normal where the ray landed, refraction or reflection, the path, then 9.
-fn landed(number: usize, o: Optic, b: Beam, l: Landing) -> Ending
-    ensures { told_ending result ≡ leg_of number o b (gives l) }
+// What a step that ends the surface of a number makes of where its passes came to: the normal where the ray landed,
+// refraction or reflection, the path, then 9.
+#[tactic(auto, unfolding(crate::specs::Leg::leg_of), using(surfaces::proofs::Refusals::refusals))]
+pub(crate) fn leg_of(
+    number: usize,
+    o: Optic,
+    b: Beam,
+    x: Result<Landing, Refusal>,
+) -> Result<Leg, Refusal>
+    ensures { told_leg result ≡ leg_of number o b (told_crossing x) }
 {
-    let s = o.surface;
-    let ray = b.ray;
-    let d = ray.direction;
-    let p = l.point;
-    match turn(s, d, p, boundary(o, b.index)) {
-        Turned::Given(v) => {
-            let normal = v.normal;
-            let direction = v.direction;
-            checked(Leg {
-                t: l.t,
-                point: p,
-                normal,
-                direction,
-                front: v.front,
-                path: b.path + share(number, b, l.t),
-            })
-        }
-        Turned::Refused(e) => Ending::Refused(e),
-    }
+    let l = x?;
+    let v = turn(o.surface, b.ray.direction, l.point, boundary(o, b.index))?;
+    checked(Ok(Leg {
+        t: l.t,
+        point: l.point,
+        normal: v.normal,
+        direction: v.direction,
+        front: v.front,
+        path: b.path + share(number, b, l.t),
+    }))
 }
 
-// What a step that ends the surface of a number makes of where its passes came to.
-pub(crate) fn leg_of(number: usize, o: Optic, b: Beam, x: Crossing) -> Ending
-    ensures { told_ending result ≡ leg_of number o b (told_crossing x) }
-{
-    match x {
-        Crossing::Given(l) => landed(number, o, b, l),
-        Crossing::Refused(e) => Ending::Refused(e),
-    }
-}
-
-fn index_after(o: Optic, index: f64) -> f64
-    ensures { result ≡ (if o.mirror then index else o.index) }
-{
-    if o.mirror { index } else { o.index }
-}
-
+#[tactic(auto, unfolding(crate::specs::Leg::beam_after))]
 pub(crate) fn beam_after(o: Optic, b: Beam, g: Leg) -> Beam
     ensures { result ≡ beam_after o b g }
 {
-    let p = g.point;
-    let d = g.direction;
     Beam {
         ray: Ray {
-            origin: p,
-            direction: d,
+            origin: g.point,
+            direction: g.direction,
         },
-        index: index_after(o, b.index),
+        index: if o.mirror { b.index } else { o.index },
         path: g.path,
     }
 }
 
-fn truth(b: bool) -> f64
-    ensures { result ≡ (if b then 1f else 0f) }
-{
-    if b { 1.0 } else { 0.0 }
-}
-
+#[tactic(auto, unfolding(crate::specs::Leg::hit_row))]
 fn hit_row(g: Leg, steps: u16) -> [f64; RECORD_NUMBERS]
     ensures { result ≡ hit_row g steps }
 {
@@ -191,16 +151,18 @@ fn hit_row(g: Leg, steps: u16) -> [f64; RECORD_NUMBERS]
         d.x,
         d.y,
         d.z,
-        truth(g.front),
-        steps as f64,
+        f64::from(g.front),
+        f64::from(steps),
     ]
 }
 
+// Slot by slot, as hit_row, since a tool holds both lists against the C header's slots.
+#[tactic(auto, unfolding(crate::specs::Leg::refusal_row), using(numbers::proofs::Literals::literals))]
 fn refusal_row(l: Line, steps: u16) -> [f64; RECORD_NUMBERS]
     ensures { result ≡ refusal_row l steps }
 {
     [
-        l.number as f64,
+        f64::from(l.number),
         l.r,
         l.limit,
         0.0,
@@ -212,15 +174,16 @@ fn refusal_row(l: Line, steps: u16) -> [f64; RECORD_NUMBERS]
         0.0,
         0.0,
         0.0,
-        steps as f64,
+        f64::from(steps),
     ]
 }
 
-pub(crate) fn row(e: Ending, steps: u16) -> [f64; RECORD_NUMBERS]
-    ensures { result ≡ row_of (told_ending e) steps }
+#[tactic(auto, unfolding(crate::specs::Leg::row_of), using(surfaces::proofs::Refusals::refusals))]
+pub(crate) fn row(e: Result<Leg, Refusal>, steps: u16) -> [f64; RECORD_NUMBERS]
+    ensures { result ≡ row_of (told_leg e) steps }
 {
     match e {
-        Ending::Given(g) => hit_row(g, steps),
-        Ending::Refused(e) => refusal_row(line_of(e), steps),
+        Ok(g) => hit_row(g, steps),
+        Err(e) => refusal_row(Line::from(e), steps),
     }
 }

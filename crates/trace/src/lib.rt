@@ -4,6 +4,7 @@
 
 mod file;
 mod leg;
+mod refusal;
 mod run;
 mod state;
 mod wanted;
@@ -14,8 +15,7 @@ pub use leg::{
     RECORD_NUMBERS, RECORD_POINT, RECORD_R, RECORD_STATUS, RECORD_STEPS, RECORD_T,
 };
 pub use recipe::{MOST_RECIPE_BYTES, SOURCE_BYTES};
-pub use run::{
-    Answer, BUFFER_TOO_SHORT, MOST_RECORDS, MOST_ROOM, STATE_DOES_NOT_FIT, start, whole,
-};
+pub use refusal::{BUFFER_TOO_SHORT, Refused, STATE_DOES_NOT_FIT, Why};
+pub use run::{MOST_RECORDS, MOST_ROOM, start, whole};
 pub use state::{DONE, RUNNING, State};
-pub use wanted::{Reached, reach};
+pub use wanted::reach;

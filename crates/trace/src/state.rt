@@ -1,12 +1,15 @@
 // A trace's state: where the beam is, and which states fit a recipe.
 ghost use Rattle.std.specs.Prelude.{◌≡◌, ◌+◌, ◌<◌, ◌^◌, eqb, if◌then◌else◌};
-ghost use Rattle.trace.specs.State.{paused_at, state_after, outcome_known, place_fits, passes_fit, beam_good, fits_of};
-ghost use Rattle.trace.specs.Parts.{told_ending};
+ghost use Rattle.recipe.specs.Scan.{passed};
+ghost use Rattle.trace.specs.State.{standing, paused_at, state_after, outcome_known, place_fits, passes_fit, beam_good};
+ghost use Rattle.trace.specs.State.{fits_of};
+ghost use Rattle.trace.specs.Run.{beam_of};
+ghost use Rattle.trace.specs.Parts.{told_leg};
 
-use crate::leg::{Beam, Ending, beam_after};
+use crate::leg::{Beam, Leg, beam_after};
 use numbers::is_finite;
 use recipe::{Checked, Optic};
-use surfaces::{BAD_PARAMETER, NOT_FINITE, SINGULAR, line_of, ray_finite};
+use surfaces::{BAD_PARAMETER, Finite, Line, NOT_FINITE, Ray, Refusal, SINGULAR};
 
 // The outcome of a trace that has not ended, and of one that hit all surfaces; any other is what ended it.
 pub const RUNNING: u8 = 0;
@@ -14,6 +17,7 @@ pub const RUNNING: u8 = 0;
 pub const DONE: u8 = 1;
 
 // Surface number, place of its record, passes made on it and t so far, the beam before it, all steps and the outcome.
+// The outcome is a number, since states come from C with any, and each is answered.
 #[derive(Clone, Copy)]
 pub struct State {
     pub number: usize,
@@ -31,72 +35,96 @@ pub(crate) fn outcome_at(number: usize, count: usize) -> u8
     if number == count { DONE } else { RUNNING }
 }
 
+#[tactic(auto, unfolding(crate::specs::State::outcome_known))]
 fn outcome_known(n: u8) -> bool
     ensures { result ≡ outcome_known n }
 {
-    (n <= BAD_PARAMETER) | ((SINGULAR <= n) & (n <= NOT_FINITE))
+    matches!(n, RUNNING..=BAD_PARAMETER | SINGULAR..=NOT_FINITE)
 }
 
-fn beam_good(b: Beam) -> bool
-    ensures { result ≡ beam_good b }
-{
-    let ray = b.ray;
-    ray_finite(ray) & is_finite(b.path) & is_finite(b.index) & !(b.index <= 0.0)
+impl Beam {
+    #[tactic(auto, unfolding(crate::specs::State::beam_good), using(numbers::proofs::Literals::literals))]
+    fn is_good(self) -> bool
+        ensures { result ≡ beam_good self }
+    {
+        self.ray.all_finite() & is_finite(self.path) & is_finite(self.index) & !(self.index <= 0.0)
+    }
 }
 
 impl State {
-    // In the middle of a surface.
-    pub(crate) fn paused(self, passes: u16, t: f64, steps: usize) -> State
-        ensures { result ≡ paused_at self passes t steps }
+    // Before the first surface, where the path is +0.0.
+    #[tactic(auto, using(numbers::proofs::Literals::literals))]
+    pub fn first(ray: Ray, index: f64, outcome: u8) -> State
+        ensures { result ≡ standing 0 0 (beam_of ray index) 0 outcome }
     {
-        let beam = self.beam;
         State {
-            number: self.number,
-            place: self.place,
-            passes,
-            t,
-            beam,
-            steps,
-            outcome: RUNNING,
+            number: 0,
+            place: 0,
+            passes: 0,
+            t: 0.0,
+            beam: Beam {
+                ray,
+                index,
+                path: 0.0,
+            },
+            steps: 0,
+            outcome,
         }
     }
 
-    // At a surface's end.
-    pub(crate) fn after(self, next: usize, count: usize, o: Optic, e: Ending, steps: usize) -> State
-        requires { self.number + 1 < 2 ^ 64 }
-        ensures { result ≡ state_after self next count o (told_ending e) steps }
+    // In the middle of a surface.
+    #[tactic(auto, unfolding(crate::specs::State::paused_at))]
+    pub(crate) fn paused(self, passes: u16, t: f64, steps: usize) -> State
+        ensures { result ≡ paused_at self passes t steps }
     {
-        let beam = self.beam;
+        State {
+            passes,
+            t,
+            steps,
+            outcome: RUNNING,
+            ..self
+        }
+    }
+
+    // At a surface's end. The next place and the optic come apart, as in the rule.
+    #[tactic(auto, unfolding(crate::specs::State::state_after), using(surfaces::proofs::Refusals::refusals))]
+    pub(crate) fn after(
+        self,
+        next: usize,
+        count: usize,
+        o: Optic,
+        e: Result<Leg, Refusal>,
+        steps: usize,
+    ) -> State
+        requires { self.number + 1 < 2 ^ 64 }
+        ensures { result ≡ state_after self next count o (told_leg e) steps }
+    {
         match e {
-            Ending::Given(g) => {
+            Ok(g) => {
                 let number = self.number + 1;
                 State {
                     number,
                     place: next,
                     passes: 0,
                     t: 0.0,
-                    beam: beam_after(o, beam, g),
+                    beam: beam_after(o, self.beam, g),
                     steps,
                     outcome: outcome_at(number, count),
                 }
             }
-            Ending::Refused(e) => {
-                let l = line_of(e);
-                State {
-                    number: self.number,
-                    place: self.place,
-                    passes: 0,
-                    t: 0.0,
-                    beam,
-                    steps,
-                    outcome: l.number,
-                }
-            }
+            Err(e) => State {
+                passes: 0,
+                t: 0.0,
+                steps,
+                outcome: Line::from(e).number,
+                ..self
+            },
         }
     }
 
+    #[tactic(auto, unfolding(crate::specs::State::place_fits))]
     fn place_fits(self, c: Checked, end: usize) -> bool
-        ensures { result ≡ place_fits c end self }
+        ensures { result ≡ place_fits (passed c) end self }
     {
         if self.outcome == DONE {
             (self.number == c.count) & (self.place == end)
@@ -105,8 +133,9 @@ impl State {
         }
     }
 
+    #[tactic(auto, unfolding(crate::specs::State::passes_fit))]
     fn passes_fit(self, c: Checked) -> bool
-        ensures { result ≡ passes_fit c self }
+        ensures { result ≡ passes_fit (passed c) self }
     {
         if self.outcome == RUNNING {
             self.passes < c.limit
@@ -116,14 +145,14 @@ impl State {
     }
 
     // Whether the state fits the recipe of which c says what it is, and which is `end` bytes long.
+    #[tactic(auto, unfolding(crate::specs::State::fits_of))]
     pub(crate) fn fits(self, c: Checked, end: usize) -> bool
-        ensures { result ≡ fits_of c end self }
+        ensures { result ≡ fits_of (passed c) end self }
     {
-        let beam = self.beam;
         outcome_known(self.outcome)
             & self.place_fits(c, end)
             & self.passes_fit(c)
             & (self.steps <= c.limits)
-            & beam_good(beam)
+            & self.beam.is_good()
     }
 }

@@ -20,7 +20,7 @@ use Rattle.surfaces.specs.Newton.{arrived_at, moved_by, newton_end, pass_at, pas
 use Rattle.surfaces.specs.Sags.{edge_root}
 use Rattle.surfaces.specs.Snell.{bent, negated_if, refracted, turned_if}
 use Rattle.surfaces.specs.Surface.{onward_from, surface_end, surface_normal, turn_answer}
-use Rattle.surfaces.specs.Types.{all_finite, distance, dot_of, every_finite, over_of, point_at, ray_finite}
+use Rattle.surfaces.specs.Types.{all_finite, dot_of, every_finite, over_of, point_at, ray_finite}
 use Rattle.surfaces.specs.Types.{vector_length}
 use Rattle.trace.specs.Demand3.{trace_of}
 use Rattle.trace.specs.Example.{beam_record, bytes, patterns, plane_record}
@@ -35,7 +35,7 @@ use Rattle.tracelist.specs.Listing.{trace_lines}
 pub each_case : agree cases ≡ true
 unfolding cases record_of off_axis pointer pane bowl inverted no_index ◌&◌ lined of_bits to_bits of_int to_unsigned neg
     round add sub mul div lt le eq is_nan decimal magnitude negative larger clamped infinite root dot_of vector_length
-    over_of distance point_at all_finite ray_finite every_finite turned_if negated_if bent refracted landed_within
+    over_of point_at all_finite ray_finite every_finite turned_if negated_if bent refracted landed_within
     plane_crossing conic_crossing conic_normal gradient_normal normal_at arrived_at moved_by pass_at vertex_plane
     passes_from newton_end power_sum_from slope_sum_from edge_root base_sag base_slope even_sag even_slope radial_slopes
     even_slopes length_of facing_of even_facing even_normal surface_end surface_normal onward_from turn_answer u16_at

@@ -68,6 +68,9 @@ module _ (f : List ℕ) where
     shape = shaped 0 (optics_of (items_of b)) (beam_of ray index)
 
     module _ (r : Reply) (whole : r ≡ whole_of b ray index z) where
+      pub traced_accepted : r.answer.number ≡ 1
+      traced_accepted = ap number (whole ∙ left)
+
       pub few_records : records_of r.answer.state.outcome r.answer.state.number ≤ most_records
       unfolding trace_of
       few_records =

@@ -2,15 +2,16 @@
 ghost use Rattle.std.specs.Prelude.{◌≡◌, ◌+◌, ◌*◌, ◌^◌, ◌<◌, ◌≤◌, length};
 ghost use Rattle.std.specs.Float.Ieee.{to_unsigned};
 ghost use Rattle.trace.specs.Leg.{width};
+ghost use Rattle.trace.specs.Refusal.{why_number};
 ghost use Rattle.trace.specs.Run.{most_records};
 ghost use Rattle.tracelist.specs.Listing.{record_line, end_line, refused_line, listing, filled};
 ghost use Rattle.tracelist.specs.Parts.{written, record_bytes, last_bytes, row_lines, records_of, state_lines};
 
 use lines::{COUNT_BYTES, FLOAT_BYTES, end_line, put_count, put_float, put_floats, put_word};
 use recipe::read_source;
-use surfaces::ACCEPTED;
+use std::num::saturating_f64_to_u64;
 use trace::{
-    DONE, MOST_RECORDS, MOST_ROOM, RECORD_NUMBERS, RECORD_STATUS, RECORD_STEPS, RECORD_T,
+    DONE, MOST_RECORDS, MOST_ROOM, RECORD_NUMBERS, RECORD_STATUS, RECORD_STEPS, RECORD_T, Refused,
     SOURCE_BYTES, State, start_file, whole,
 };
 
@@ -28,24 +29,24 @@ pub(crate) fn list(file: &[u8], out: &mut [u8; MOST_BYTES]) -> usize
     ensures { (result, out.new) ≡ filled out.old (listing file.now) }
 {
     let mut results = [0.0; MOST_ROOM];
-    let started = start_file(file, &mut results);
-    if started.number != ACCEPTED {
-        return put_refused(out, started.number, started.place);
+    match start_file(file, &mut results) {
+        Ok(_) => {
+            let source = read_source(file).unwrap();
+            let recipe = &file[SOURCE_BYTES..];
+            let end = whole(recipe, source.ray, source.index, &mut results).unwrap();
+            put_trace(out, &results, end)
+        }
+        Err(e) => put_refused(out, e),
     }
-    let source = read_source(file);
-    let ray = source.ray;
-    let traced = whole(&file[SOURCE_BYTES..], ray, source.index, &mut results);
-    let s = traced.state;
-    put_trace(out, &results, s)
 }
 
-fn put_refused(out: &mut [u8], number: u8, place: usize) -> usize
+fn put_refused(out: &mut [u8], e: Refused) -> usize
     requires { last_bytes ≤ length out.old }
-    ensures { (result, out.new) ≡ filled out.old (refused_line number place) }
+    ensures { (result, out.new) ≡ filled out.old (refused_line (why_number e.why) e.place) }
 {
     let mut end = put_word(out, 0, b"refused");
-    end = put_count(out, end, number as u64);
-    end = put_count(out, end, place as u64);
+    end = put_count(out, end, u64::from(e.why.number()));
+    end = put_count(out, end, e.place as u64);
     end_line(out, end);
     end
 }
@@ -54,12 +55,12 @@ fn put_trace(out: &mut [u8; MOST_BYTES], results: &[f64; MOST_ROOM], s: State) -
     requires { records_of s.outcome s.number ≤ most_records }
     ensures { (result, out.new) ≡ filled out.old (state_lines results.now s) }
 {
-    let beam = s.beam;
     let end = put_records(out, results, records_of(s.outcome, s.number));
-    put_end(out, end, s.outcome, s.steps, beam.path)
+    put_end(out, end, s.outcome, s.steps, s.beam.path)
 }
 
 // A refusal has a record too.
+#[tactic(auto, unfolding(crate::specs::Parts::records_of))]
 fn records_of(outcome: u8, hits: usize) -> usize
     requires { records_of outcome hits < 2 ^ 64 }
     ensures { result ≡ records_of outcome hits }
@@ -72,13 +73,13 @@ fn put_records(out: &mut [u8], results: &[f64], count: usize) -> usize
     ensures { (result, out.new) ≡ written out.old 0 (row_lines 0 count results.now) }
 {
     let mut end = 0;
-    for i in 0..count {
-        let at = i * RECORD_NUMBERS;
-        end = put_record(out, end, i, &results[at..at + RECORD_NUMBERS]);
+    for (number, row) in results.chunks_exact(RECORD_NUMBERS).take(count).enumerate() {
+        end = put_record(out, end, number, row);
     }
     end
 }
 
+// Buffer and place stand apart, as in `lines`, for the reason that stands at `put_word`.
 fn put_record(out: &mut [u8], at: usize, number: usize, row: &[f64]) -> usize
     requires { (length row.now ≡ width) × (at + record_bytes ≤ length out.old) }
     ensures { (result, out.new) ≡ written out.old at (record_line number row.now) }
@@ -91,18 +92,11 @@ fn put_record(out: &mut [u8], at: usize, number: usize, row: &[f64]) -> usize
     end
 }
 
-// A slot's count. A status and a number of steps pass the tests, which are those that dropping a fraction asks for; any
-// other number is past an end of the range.
+// A slot's count; a status and a number of steps are whole numbers.
 fn count(x: f64) -> u64
     ensures { result ≡ to_unsigned 64 x }
 {
-    if x > -1.0 {
-        if x < 18446744073709551616.0 {
-            return std::num::truncating_f64_to_u64(x);
-        }
-        return u64::MAX;
-    }
-    0
+    saturating_f64_to_u64(x)
 }
 
 fn put_end(out: &mut [u8], at: usize, outcome: u8, steps: usize, path: f64) -> usize
@@ -110,7 +104,7 @@ fn put_end(out: &mut [u8], at: usize, outcome: u8, steps: usize, path: f64) -> u
     ensures { (result, out.new) ≡ written out.old at (end_line outcome steps path) }
 {
     let mut end = put_word(out, at, b"end");
-    end = put_count(out, end, outcome as u64);
+    end = put_count(out, end, u64::from(outcome));
     end = put_count(out, end, steps as u64);
     end = put_float(out, end, path);
     end_line(out, end);

@@ -4,48 +4,39 @@
 // or writing fails, a word on standard error says which, and the exit status is 0 all the same.
 #![tactic(auto)]
 
-ghost use Rattle.std.specs.Prelude.{◌≤◌, length};
+ghost use Rattle.std.specs.Prelude.{◌≤◌, length, IfOk};
 
 mod listing;
 
 use listing::{MOST_BYTES, list};
-use std::io::{Read, Write};
+use std::io::{Read, Result, Write};
 use trace::{MOST_RECIPE_BYTES, SOURCE_BYTES};
 
 // The ray's bytes, the longest recipe's and one: by a theorem these alone decide what is printed of a longer file.
 const FILE: usize = SOURCE_BYTES + MOST_RECIPE_BYTES + 1;
 
-// How many bytes were read, and whether all reads succeeded.
-#[derive(Drop)]
-struct Input {
-    held: usize,
-    good: bool,
-}
-
-// Reads until the input ends, the buffer is full or a read fails.
-fn read_input<R: Read>(input: &mut R, file: &mut [u8]) -> Input
-    ensures { result.held ≤ length file.new }
+// Reads until the input ends, the buffer is full or a read fails, and answers how many bytes were read.
+// By hand, since no method of std fills a buffer as far as the input goes.
+fn read_input<R: Read>(input: &mut R, file: &mut [u8]) -> Result<usize>
+    ensures { IfOk result (λ held. held ≤ length file.new) }
 {
     let mut held = 0;
     while held < file.len() {
-        match input.read(&mut file[held..]) {
-            Ok(0) => break,
-            Ok(more) => held += more,
-            Err(_) => return Input { held, good: false },
+        match input.read(&mut file[held..])? {
+            0 => break,
+            more => held += more,
         }
     }
-    Input { held, good: true }
+    Ok(held)
 }
 
 fn main(rt: HostRuntime) {
     let mut file = [0u8; FILE];
     let mut out = [0u8; MOST_BYTES];
-    let input = read_input(&mut rt.stdin(), &mut file);
-    if !input.good {
+    let Ok(held) = read_input(&mut rt.stdin(), &mut file) else {
         let _ = rt.stderr().write_all(b"unread\n");
         return;
-    }
-    let held = input.held;
+    };
     let n = list(&file[..held], &mut out);
     if rt.stdout().write_all(&out[..n]).is_err() {
         let _ = rt.stderr().write_all(b"unwritten\n");

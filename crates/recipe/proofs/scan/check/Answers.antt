@@ -1,54 +1,66 @@
 -- What is noted so far, with the scan that is left, says what the whole check does. Assumes nothing.
+use Rattle.std.proofs.lemmas.Result.{err_from_is_err_and}
 use Prim.Native.Nat.{zero-le}
-use mathlib.Core.Path.{◌∙◌}
+use mathlib.Core.Path.{refl}
 use mathlib.Core.Logic.{inl, inr}
 use native.Mathlib.Nat.{sub-zero}
 use native.Mathlib.Omega.{arith}
 use Rattle.recipe.specs.Scan.{check_of}
-use Rattle.recipe.proofs.Checks.{seen_passed, seen_bad, turn, out_full, out_bad, out_end}
+use Rattle.recipe.proofs.Checks.{seen_passed, turn, out_full, out_bad, out_end}
 use Rattle.recipe.proofs.Checks.{out_enough}
 use Rattle.recipe.proofs.scan.check.Goals as goal
-use Rattle.recipe.proofs.scan.check.Goals.{then-count-wanted, else-count-wanted}
+use Rattle.recipe.proofs.scan.check.Goals.{then-number-wanted, else-number-wanted}
 
-pub loop-at-init : goal.loop-at-init
+pub loop-number-init : goal.loop-number-init
 unfolding check_of
-loop-at-init c = (zero-le, zero-le, zero-le, rw sub-zero)
+loop-number-init c = record { inside = zero-le; counted = refl; limits = zero-le; told = rw sub-zero }
 
-pub returns-then-all : goal.returns-then-all
-returns-then-all c =
-    c.failed.ensures
-    ∙ out_full _ _ _ _ _ _ _ _ c.loop-at.invariant.3 c.if-count-most.true c.loop-at-test.true
-    c.if-all.true
+pub returns-then-c-s : goal.returns-then-c-s
+returns-then-c-s c = out_end _ _ _ _ _ _ _ _ c.loop-number.invariant.told c.if-c-s.true
 
-pub returns-then-seen-ne-ACCEPTED : goal.returns-then-seen-ne-ACCEPTED
-returns-then-seen-ne-ACCEPTED c =
-    c.failed-then-seen-ne-ACCEPTED.ensures
-    ∙ out_bad _ _ _ _ _ _ _ _ c.loop-at.invariant.3 c.if-count-most.false c.loop-at-test.true
-    (seen_bad _ _ _ c.look-seen.ensures c.if-seen-ne-ACCEPTED.true)
+pub returns-in_err-seen : goal.returns-in_err-seen
+returns-in_err-seen c =
+    let p = err_from_is_err_and c.from_residual.result c.from_residual.ensures.1 in
+    rw (p.1, p.2)
+    (out_bad _ _ _ _ _ _ _ _ c.loop-number.invariant.told _ _ c.loop-number-test.true c.if-c-s.false
+    c.in_err-seen.ensures)
 
-pub overflow_add-limits : goal.overflow_add-limits
-overflow_add-limits c = let p = seen_passed _ _ _ c.look-seen.ensures c.if-seen-ne-ACCEPTED.false in omega arith
+pub overflow_add-c-in-loop-number : goal.overflow_add-c-in-loop-number
+overflow_add-c-in-loop-number c =
+    let p = seen_passed _ _ _ c.in_ok-seen.ensures in
+    elim c.if-number-wanted.branch [
+      | then-number-wanted w ↦ rw w.c-is (omega arith)
+      | else-number-wanted w ↦ rw w.c-is (omega arith)
+    ]
 
-pub loop-at-smaller : goal.loop-at-smaller
-loop-at-smaller c = let p = seen_passed _ _ _ c.look-seen.ensures c.if-seen-ne-ACCEPTED.false in omega arith
+pub loop-number-preserved : goal.loop-number-preserved
+loop-number-preserved c =
+    let p = seen_passed _ _ _ c.in_ok-seen.ensures in
+    let told = rw c.loop-number.invariant.counted at c.loop-number.invariant.told in
+    rw c.from.ensures
+    (elim c.if-number-wanted.branch [
+      | then-number-wanted w ↦ rw w.c-is
+          (record {
+            inside = p.inside;
+            counted = refl;
+            limits = omega arith;
+            told = turn _ _ _ _ _ _ _ _ _ _ _ _ _ _ c.loop-number-test.true c.if-c-s.false p
+                (inl (w.if-number-wanted.true, refl, refl)) told;
+          })
+      | else-number-wanted w ↦ rw w.c-is
+          (record {
+            inside = p.inside;
+            counted = refl;
+            limits = omega arith;
+            told = turn _ _ _ _ _ _ _ _ _ _ _ _ _ _ c.loop-number-test.true c.if-c-s.false p
+                (inr (w.if-number-wanted.false, refl, refl)) told;
+          })
+    ])
 
-pub loop-at-preserved : goal.loop-at-preserved
-loop-at-preserved c =
-    let p = seen_passed _ _ _ c.look-seen.ensures c.if-seen-ne-ACCEPTED.false in (
-      p.inside,
-      omega arith,
-      omega arith,
-      turn _ _ _ _ _ _ _ _ _ _ _ _ _ _ c.if-count-most.false c.loop-at-test.true p
-          (elim c.if-count-wanted.branch [
-            | then-count-wanted w ↦ inl (w.if-count-wanted.true, w.found-is, w.limit-is)
-            | else-count-wanted w ↦ inr (w.if-count-wanted.false, w.found-is, w.limit-is)
-          ])
-          c.loop-at.invariant.3,
-    )
+pub returns-then-all-c : goal.returns-then-all-c
+returns-then-all-c c =
+    out_full _ _ _ _ _ _ _ _ c.loop-number.invariant.told c.loop-number-test.false c.if-all-c.true
 
-pub returns-after-loop-at : goal.returns-after-loop-at
-returns-after-loop-at c = out_end _ _ _ _ _ _ _ _ c.loop-at.invariant.3 c.loop-at-test.false
-
-pub returns-else-all : goal.returns-else-all
-returns-else-all c =
-    out_enough _ _ _ _ _ _ _ _ c.loop-at.invariant.3 c.if-count-most.true c.if-all.false
+pub returns : goal.returns
+returns c =
+    out_enough _ _ _ _ _ _ _ _ c.loop-number.invariant.told c.loop-number-test.false c.if-all-c.false

@@ -25,10 +25,12 @@ pub returns-then-c : goal.returns-then-c
 unfolding decimal of_bits
 returns-then-c c h =
     let a = c.args in
-    near_on_sheet a.c a.k a.z _ (curved (goal.at.returns-then-c c).Else-is_finite-abs) (simp neg_twice at (c.surely_near.ensures h).1)
+    near_on_sheet a.c a.k a.z _ (curved (goal.at.returns-then-c c).Else-is_finite-abs)
+    (simp neg_twice at (c.surely_near.ensures h).1)
 
 pub returns-else-c : goal.returns-else-c
 unfolding decimal of_bits
 returns-else-c c h =
     let a = c.args in
-    near_on_sheet a.c a.k a.z _ (curved (goal.at.returns-else-c c).Else-is_finite-abs) (c.surely_near-else-c.ensures h).0
+    near_on_sheet a.c a.k a.z _ (curved (goal.at.returns-else-c c).Else-is_finite-abs)
+    (c.surely_near-else-c.ensures h).0

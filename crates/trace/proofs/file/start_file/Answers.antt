@@ -1,56 +1,58 @@
 -- Without the record of the ray the file is refused, and with it the start on the rest decides. Assumes nothing.
-use Prim.Native.Nat.{ℕ, ◌-◌, ◌≤◌}
-use mathlib.Core.Path.{◌≡◌, sym, ◌∙◌, ap}
-use mathlib.Core.Bool.{true}
-use mathlib.Core.List.{List}
-use native.Mathlib.Omega.{arith}
-use lib.ListN.{length, drop, length-drop}
-use lib.Seq.{take_all}
-use borrow.Author.Rules.{rules}
-use Rattle.recipe.specs.Scan.{check_of}
-use Rattle.recipe.specs.Source.{source_bytes}
-use Rattle.recipe.specs.declared.scan.Checked.{Checked}
-use Rattle.recipe.specs.declared.source.Source.{Source}
-use Rattle.trace.specs.Run.{most_records}
-use Rattle.trace.proofs.Files.{source_long, place_within, no_source, with_source}
+use Rattle.std.proofs.Common.{◌≡◌, ◌≤◌, length, length-drop, drop, refl, sym, ap, ◌∙◌, arith, rules}
+use Rattle.std.specs.Prelude.{Some}
+use Rattle.std.proofs.lemmas.Result.{err_from_is_err_and}
+use Rattle.recipe.specs.Scan.{Verdict}
+use Rattle.recipe.specs.Source.{SourceRow, source_bytes, source_of, told_source}
+use Rattle.trace.specs.Run.{begun_of}
+use Rattle.trace.proofs.Starts.{bad_begun}
+use Rattle.trace.proofs.Files.{source_long, place_within, source_there, source_missing, rest_checked}
+use Rattle.trace.proofs.Files.{without_source, with_source}
 use Rattle.trace.proofs.file.start_file.Goals as goal
-use Rattle.trace.proofs.file.start_file.Goals.{Else-s-ne-ACCEPTED, After-check-c}
+use Rattle.trace.proofs.file.start_file.Goals.{In_ok-s}
 
--- the room that an accepted record of the ray tells of
-long : (c : Else-s-ne-ACCEPTED) → source_bytes ≤ length c.args.file.now
-long c =
-    let e = sym c.read_source-s.ensures in
-    source_long c.args.file.now (ap (λ (s : Source). s.number) e ∙ c.if-s-ne-ACCEPTED.false)
+-- the record of the ray, and the room that it tells of
+read : (c : In_ok-s) → told_source (Some c.in_ok-s.s) ≡ source_of c.args.file.now
+read c = sym (source_there _ _ _ c.in_ok-s.ensures.value) ∙ c.read_source.ensures
 
--- the records behind the ray's are the whole rest
-checked : (c : After-check-c) → c.check-c.result ≡ check_of (drop source_bytes c.args.file.now) most_records true 0
-checked c =
+long : (c : In_ok-s) → source_bytes ≤ length c.args.file.now
+long c = source_long c.args.file.now (ap (λ (s : SourceRow). s.number) (sym (read c)))
+
+pub returns-in_err-s : goal.returns-in_err-s
+returns-in_err-s c =
     let f = c.args.file.now in
-    let whole = take_all (length f - source_bytes) (drop source_bytes f) (simp length-drop (omega arith)) in
-    c.check-c.ensures ∙ ap (λ (l : List ℕ). check_of l most_records true 0) whole
-
-pub returns-then-s-ne-ACCEPTED : goal.returns-then-s-ne-ACCEPTED
-returns-then-s-ne-ACCEPTED c =
-    no_source c.args.file.now c.args.buf.now _ c.blank_out.ensures _ c.read_source-s.ensures _
-    c.if-s-ne-ACCEPTED.true c.refused.ensures
+    let p = err_from_is_err_and c.from_residual.result c.from_residual.ensures.1 in
+    let none = source_missing _ _ _ c.in_err-s.ensures.value in
+    rw (p.1, p.2, none.1)
+    (without_source f c.args.buf.now _ c.blank_out.ensures _ (sym none.0 ∙ c.read_source.ensures) _ (λ e. omega arith)
+    refl)
 
 pub slice_bounds-check-count : goal.slice_bounds-check-count
-slice_bounds-check-count c = long (goal.at.slice_bounds-check-count c).Else-s-ne-ACCEPTED
+slice_bounds-check-count c = long (goal.at.slice_bounds-check-count c).In_ok-s
 
 pub slice_bounds-check-start : goal.slice_bounds-check-start
-slice_bounds-check-start c =
-    let l = long (goal.at.slice_bounds-check-start c).Else-s-ne-ACCEPTED in search rules
+slice_bounds-check-start c = let l = long (goal.at.slice_bounds-check-start c).In_ok-s in search rules
 
-pub begin-requires : goal.begin-requires
-begin-requires c =
-    let at = goal.at.begin-requires c in
-    let l = long at.Else-s-ne-ACCEPTED in
+pub overflow_add-result : goal.overflow_add-result
+overflow_add-result c =
+    let at = goal.at.overflow_add-result c in
     let f = c.args.file.now in
-    let place = ap (λ (k : Checked). k.place) (checked at.After-check-c) in
+    let l = long at.In_ok-s in
+    let place = ap (λ (k : Verdict). k.place) (rest_checked f l _ c.in-Err.ensures) in
     let good = c.well_formed in
     omega (arith, place_within (drop source_bytes f) 0, place, length-drop source_bytes f, l, good)
 
-pub returns : goal.returns
-returns c =
-    with_source c.args.file.now c.args.buf.now _ c.blank_out.ensures _ c.read_source-s.ensures _
-    c.if-s-ne-ACCEPTED.false _ (checked (goal.at.returns c).After-check-c) c.begin.ensures
+pub returns-in-Ok : goal.returns-in-Ok
+unfolding begun_of
+returns-in-Ok c =
+    let f = c.args.file.now in
+    let at = (goal.at.returns-in-Ok c).In_ok-s in
+    with_source f c.args.buf.now _ c.blank_out.ensures _ (read at) _ refl _ (rest_checked f (long at) _ c.in-Ok.ensures)
+    c.begin.ensures
+
+pub returns-in-Err : goal.returns-in-Err
+returns-in-Err c =
+    let f = c.args.file.now in
+    let at = (goal.at.returns-in-Err c).In_ok-s in
+    with_source f c.args.buf.now _ c.blank_out.ensures _ (read at) _ refl _
+    (rest_checked f (long at) _ c.in-Err.ensures) (bad_begun _ source_bytes _ _ _ _ refl)

@@ -1,66 +1,73 @@
 -- At each turn the lines that are left, behind those before them, come to the same. Assumes nothing.
-use Rattle.std.proofs.Common.{◌≡◌, ℕ, suc, ◌+◌, ◌-◌, ◌*◌, ◌<◌, ◌≤◌, List, ◌++◌, length, take, drop, sym, refl, ap, ◌∙◌}
-use Rattle.std.proofs.Common.{add-zero, add-one, arith, length-drop, length-take, drop-drop, rules}
-use native.Mathlib.Nat.{sub-zero}
+use Rattle.std.proofs.Common.{◌≡◌, ℕ, zero, suc, ◌+◌, ◌*◌, ◌<◌, ◌≤◌, List, ◌++◌, length, sym, refl, ap, ◌∙◌}
+use Rattle.std.proofs.Common.{add-zero, add-one, arith, length-append, rules}
 use lib.Ieee.{Float}
+use lib.Seq.{take_at, drop_at}
 use Rattle.trace.specs.Leg.{width}
 use Rattle.tracelist.specs.Listing.{record_line}
 use Rattle.tracelist.specs.Parts.{written, record_bytes, row_lines}
 use Rattle.tracelist.proofs.Buffers.{both_written}
 use Rattle.tracelist.proofs.Widths.{record_short}
-use Rattle.tracelist.proofs.listing.put_records.Invariants.{left}
 use Rattle.tracelist.proofs.listing.put_records.Goals as goal
 
--- record i
-abbrev row : List Float → ℕ → List Float
-row results i = take (i * width + width - i * width) (drop (i * width) results)
-
-row_width : (results : List Float) (count i : ℕ) → i < count → width * count ≤ length results
-    → length (row results i) ≡ width
-row_width results count i h r = simp (length-take, length-drop) (omega arith)
-
-module _ (results : List Float) (count i : ℕ) (out : List ℕ) (end : ℕ) where
-  first_left : i < count → left results count i ≡ record_line i (row results i) ++ left results count (i + 1)
+-- a row z begins with, of the n that are left there
+module _ (z row rest : List Float) (cut : z ≡ row ++ rest) (wide : length row ≡ width)
+    (n left : ℕ) (less : left + 1 ≡ n) where
+  first_left : (number : ℕ) → row_lines number n z ≡ record_line number row ++ row_lines (number + 1) left rest
   unfolding row_lines
-  first_left h =
-      let e : count - i ≡ suc (count - (i + 1)) = omega arith in
-      let f : (i + 1) * width ≡ i * width + width = omega arith in
-      let g : i * width + width - i * width ≡ width = omega arith in
-      rw (e, f, g, drop-drop width (i * width) results, add-one i)
+  first_left number =
+      let e : n ≡ suc left = omega arith in
+      rw (e, cut, take_at row rest width wide, drop_at row rest width wide, add-one number)
 
-  one_more : i < count → (p : ℕ × List ℕ) → p ≡ written out end (record_line i (row results i))
-      → written p.1 p.0 (left results count (i + 1)) ≡ written out end (left results count i)
-  one_more h p e =
-      both_written out end _ _ p _ e refl ∙ ap (written out end) (sym (first_left h))
+  rest_long : width * n ≤ length z → width * left ≤ length rest
+  rest_long h = let e = ap length cut ∙ length-append row rest in omega arith
 
-  within : i < count → width * count ≤ length results → (p : ℕ × List ℕ)
-      → p ≡ written out end (record_line i (row results i)) → end ≤ record_bytes * i → p.0 ≤ record_bytes * (i + 1)
-  unfolding written
-  within h r p e b =
-      let q : p.0 ≡ end + length (record_line i (row results i)) = ap (λ (w : ℕ × List ℕ). w.0) e in
-      omega (arith, record_short i (row results i) (row_width results count i h r))
+  -- its line is put
+  module _ (out : List ℕ) (end number : ℕ) (p : ℕ × List ℕ) (put : p ≡ written out end (record_line number row)) where
+    one_more : written p.1 p.0 (row_lines (number + 1) left rest) ≡ written out end (row_lines number n z)
+    one_more = both_written out end _ _ p _ put refl ∙ ap (written out end) (sym (first_left number))
 
-  all_put : count ≤ i → (end, out) ≡ written out end (left results count i)
-  unfolding written row_lines
-  all_put h = let e : count - i ≡ 0 = omega arith in rw (e, add-zero end)
+    within : (size : ℕ) → end + record_bytes * n ≤ size → p.0 + record_bytes * left ≤ size
+    unfolding written
+    within size b =
+        let q : p.0 ≡ end + length (record_line number row) = ap (λ (w : ℕ × List ℕ). w.0) put in
+        omega (arith, record_short number row wide)
 
-pub loop-i-init : goal.loop-i-init
-loop-i-init c = (search rules, search rules, refl, rw sub-zero)
+none_left : (out : List ℕ) (end number n : ℕ) (z : List Float) → n ≡ 0
+    → (end, out) ≡ written out end (row_lines number n z)
+unfolding written row_lines
+none_left out end number n z h = rw (h, add-zero end)
+
+-- no more come where none are left
+none : (n size long : ℕ) → (0 < n → long < size) → size ≡ width → width * n ≤ long → n ≡ 0
+none zero size long h w l = refl
+none (suc n) size long h w l = let k = h (omega arith) in absurd (omega arith)
+
+pub loop-number-init : goal.loop-number-init
+loop-number-init c = search rules
 
 pub put_record-end-requires : goal.put_record-end-requires
 put_record-end-requires c =
-    let x = c.args in
-    let i = c.loop-i.i in
-    (row_width x.results.now x.count i c.loop-i-test.true c.requires.0, search rules)
+    let s = c.in-Some.ensures.steps in
+    let v = c.loop-number.invariant in
+    let left = s.0.1 in
+    let same = c.loop-number.auto.out in
+    (s.0.0.1.1 ∙ v.0, omega (arith, v.2, left, same))
 
-pub loop-i-preserved : goal.loop-i-preserved
-loop-i-preserved c =
-    let at = c.loop-i in (
-      search rules,
-      within _ _ at.i _ _ c.loop-i-test.true c.requires.0 _ c.put_record-end.ensures at.invariant.1,
-      search rules,
-      one_more _ _ at.i _ _ c.loop-i-test.true _ c.put_record-end.ensures ∙ at.invariant.3,
+pub loop-number-preserved : goal.loop-number-preserved
+loop-number-preserved c =
+    let s = c.in-Some.ensures.steps in
+    let v = c.loop-number.invariant in
+    let wide = s.0.0.1.1 ∙ v.0 in
+    let put = rw s.1 at c.put_record-end.ensures in (
+      s.0.0.0 ∙ v.0,
+      rest_long _ _ _ s.0.0.1.0 wide _ _ s.0.1 v.1,
+      within _ _ _ s.0.0.1.0 wide _ _ s.0.1 _ _ _ _ put _ v.2,
+      rw s.2 (one_more _ _ _ s.0.0.1.0 wide _ _ s.0.1 _ _ _ _ put ∙ v.3),
     )
 
 pub returns : goal.returns
-returns c = all_put _ _ c.loop-i.i _ _ (search rules) ∙ c.loop-i.invariant.3
+returns c =
+    let s = c.in-None.ensures.steps in
+    let v = c.loop-number.invariant in
+    none_left _ _ _ c.loop-number.number-iterator.iter.n _ (none _ _ _ (λ p. (s.0 p).1.0) v.0 v.1) ∙ v.3

@@ -14,14 +14,6 @@ rows_within out n z p h e =
     let q : p.0 ≡ 0 + length (row_lines 0 n z) = ap (λ (w : ℕ × List ℕ). w.0) e in
     omega (arith, rows_short 0 n z h)
 
-pub records_of-requires : goal.records_of-requires
-unfolding state_lines
-records_of-requires c = search rules
-
-pub put_records-end-requires : goal.put_records-end-requires
-unfolding state_lines
-put_records-end-requires c = search rules
-
 pub put_end-requires : goal.put_end-requires
 unfolding state_lines
 put_end-requires c = omega (arith, rows_within _ _ _ _ (omega arith) c.put_records-end.ensures)

@@ -1,0 +1,28 @@
+// What is wrong with a record.
+ghost use Rattle.std.specs.Prelude.{◌≡◌};
+ghost use Rattle.recipe.specs.Fault.{fault_number};
+
+use crate::record::MALFORMED;
+use surfaces::{BAD_PARAMETER, NEGATIVE_SEMI_DIAMETER, SINGULAR};
+
+#[derive(Clone, Copy, PartialEq, Eq)]
+pub enum Fault {
+    BadParameter,
+    NegativeSemiDiameter,
+    Singular,
+    Malformed,
+}
+
+impl Fault {
+    // The table's number: by a method, since `u8::from` would not say of which table.
+    pub fn number(self) -> u8
+        ensures { result ≡ fault_number self }
+    {
+        match self {
+            Fault::BadParameter => BAD_PARAMETER,
+            Fault::NegativeSemiDiameter => NEGATIVE_SEMI_DIAMETER,
+            Fault::Singular => SINGULAR,
+            Fault::Malformed => MALFORMED,
+        }
+    }
+}

@@ -1,8 +1,0 @@
--- Drafted (tools/draft): opens nothing. By the tests and the calls, in order. Assumes nothing.
-use lib.Ieee.{of_bits}
-use Rattle.numbers.specs.Arithmetic.{decimal}
-use Rattle.surfaces.proofs.conic.ConicSurface.sphere.Goals as goal
-
-pub returns : goal.returns
-unfolding decimal of_bits
-returns c = rw (← c.from_radius.ensures)

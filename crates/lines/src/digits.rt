@@ -44,7 +44,7 @@ fn spelled(word: &[u8], base: u64, most: u64) -> Option<u64>
 }
 
 // A decimal number, at most `most`.
-#[tactic(auto, unfolding(crate::specs::Digits::read_count))]
+#[tactic(auto, unfolding(crate::specs::Digits::read_count), using(crate::proofs::Within::read_count_within))]
 pub fn read_count(word: &[u8], most: u64) -> Option<u64>
     ensures number { result ≡ read_count most word.now }
     ensures within { IfSome result (λ n. n ≤ most) }

@@ -1,12 +1,150 @@
 // The lines of an input, one after the other. A read that fails counts as the input's end.
-ghost use Rattle.std.specs.Prelude.{ℕ, ◌+◌, ◌-◌, ◌<◌, ◌≤◌, ◌≡◌, ◌≢◌, length, slice_index, slice_range};
-ghost use Rattle.std.specs.Prelude.{EachIndex, IfSome, IfOk, MatchOption};
-ghost use Rattle.lines.specs.Input.{IsLine};
+ghost use Rattle.std.specs.Prelude.{ℕ, ◌+◌, ◌<◌, ◌≤◌, ◌≡◌, ◌≢◌, length, slice_index};
+ghost use Rattle.std.specs.Prelude.{EachIndex, IfSome, IfOk, MatchOption, replicate};
+ghost use Rattle.lines.specs.Input.{IsLine, IsUnread, IsNext};
 
 use std::io::Read;
 
 // How many characters the test programs take in a line.
 pub const LONGEST_LINE: usize = 131200;
+
+// Where the bytes that were read and not yet handed out stand in the buffer.
+#[derive(Clone, Copy)]
+pub struct Unread {
+    pub from: usize,
+    pub to: usize,
+}
+
+#[derive(Clone, Copy)]
+pub enum ReadLine {
+    // From one place of the buffer up to another, without the line feed.
+    Given { start: usize, end: usize },
+    // It does not fit the buffer with its line feed, and was passed over.
+    TooLong,
+    // The input has ended.
+    End,
+}
+
+#[derive(Clone, Copy)]
+pub struct Next {
+    pub line: ReadLine,
+    pub unread: Unread,
+}
+
+// The next line, in a buffer that the caller lends. The last one may lack its line feed. Which it is depends on what is
+// read, of which nothing can be promised.
+pub fn next_line<R: Read>(input: &mut R, buffer: &mut [u8], unread: Unread) -> Next
+    ensures kept { length buffer.new ≡ length buffer.old }
+    ensures next { IsNext buffer.new result }
+{
+    let to = unread.to.min(buffer.len());
+    let from = unread.from.min(to);
+    if let Some(n) = line_feed(buffer, from, to) {
+        let end = from + n;
+        return Next {
+            line: ReadLine::Given { start: from, end },
+            unread: Unread { from: end + 1, to },
+        };
+    }
+    buffer.copy_within(from..to, 0);
+    read_line(input, buffer, to - from)
+}
+
+// The line whose first `held` bytes begin the buffer.
+fn read_line<R: Read>(input: &mut R, buffer: &mut [u8], held: usize) -> Next
+    requires in_buffer { held ≤ length buffer.old }
+    requires no_feed { (k : ℕ) → k < held → slice_index buffer.old k ≢ 10 }
+    ensures { IsNext buffer.new result }
+{
+    let mut to = held;
+    while to < buffer.len() {
+        let more = read_behind(input, buffer, to);
+        if more == 0 {
+            return last_line(buffer, to);
+        }
+        let next = to + more;
+        if let Some(n) = line_feed(buffer, to, next) {
+            let end = to + n;
+            return Next {
+                line: ReadLine::Given { start: 0, end },
+                unread: Unread {
+                    from: end + 1,
+                    to: next,
+                },
+            };
+        }
+        to = next;
+    }
+    Next {
+        line: ReadLine::TooLong,
+        unread: pass_over(input, buffer),
+    }
+}
+
+// The line that the input's end ends, if it has a byte.
+fn last_line(buffer: &[u8], to: usize) -> Next
+    requires in_buffer { to < length buffer.now }
+    requires no_feed { (k : ℕ) → k < to → slice_index buffer.now k ≢ 10 }
+    ensures { IsNext buffer.now result }
+{
+    let line = if to == 0 {
+        ReadLine::End
+    } else {
+        ReadLine::Given { start: 0, end: to }
+    };
+    Next {
+        line,
+        unread: Unread { from: to, to },
+    }
+}
+
+// Passes over the rest of a line, and answers what was read behind it. Nothing says that the line ends, and a proved
+// loop has to: no run uses up so many turns.
+fn pass_over<R: Read>(input: &mut R, buffer: &mut [u8]) -> Unread
+    ensures { IsUnread buffer.new result }
+{
+    for _ in 0..u64::MAX {
+        let to = read_behind(input, buffer, 0);
+        if let Some(n) = line_feed(buffer, 0, to) {
+            return Unread { from: n + 1, to };
+        }
+        if to == 0 {
+            break;
+        }
+    }
+    Unread { from: 0, to: 0 }
+}
+
+// Reads behind the first bytes, and tells how many.
+fn read_behind<R: Read>(input: &mut R, buffer: &mut [u8], to: usize) -> usize
+    requires { to ≤ length buffer.old }
+    ensures within { to + result ≤ length buffer.new }
+    ensures kept { (k : ℕ) → k < to → slice_index buffer.new k ≡ slice_index buffer.old k }
+{
+    input.read(&mut buffer[to..]).unwrap_or(0)
+}
+
+// How many bytes from a place up to another stand before the first line feed.
+fn line_feed(buffer: &[u8], from: usize, to: usize) -> Option<usize>
+    requires ordered { from ≤ to }
+    requires in_buffer { to ≤ length buffer.now }
+    ensures within { IfSome result (λ n. from + n < to) }
+    ensures none_before { MatchOption result
+        ((k : ℕ) → from + k < to → slice_index buffer.now (from + k) ≢ 10)
+        (λ n. (k : ℕ) → k < n → slice_index buffer.now (from + k) ≢ 10) }
+{
+    first_feed(&buffer[from..to])
+}
+
+// How many bytes stand before the first line feed.
+fn first_feed(bytes: &[u8]) -> Option<usize>
+    ensures within { IfSome result (λ n. n < length bytes.now) }
+    ensures none_before { MatchOption result
+        (EachIndex bytes.now (λ k. slice_index bytes.now k ≢ 10))
+        (λ n. (k : ℕ) → k < n → slice_index bytes.now k ≢ 10) }
+{
+    bytes.iter().position(|b| *b == b'\n')
+}
 
 // A line does not fit the buffer with its line feed, and was passed over.
 #[derive(Clone, Copy, Debug, PartialEq, Eq)]
@@ -28,6 +166,8 @@ impl<R: Read, const N: usize> Lines<R, N> {
     pub fn new(input: R) -> Self
         ensures input { result.input ≡ input }
         ensures empty { result.to ≡ 0 }
+        ensures start { result.from ≡ 0 }
+        ensures zeros { result.buffer ≡ replicate N 0 }
     {
         Lines {
             input,
@@ -42,104 +182,18 @@ impl<R: Read, const N: usize> Lines<R, N> {
     pub fn next_line(&mut self) -> Option<Result<&[u8], TooLong>>
         ensures { IfSome result (λ r. IfOk r (λ line. IsLine N line.now)) }
     {
-        // A match and no `map`: the check does not follow a slice that a closure borrows of self.
-        match self.line_length()? {
-            Ok(n) => Some(Ok(self.hand_out(n))),
-            Err(e) => Some(Err(e)),
-        }
-    }
-
-    // How many bytes the next line has, which then stands in the buffer.
-    fn line_length(&mut self) -> Option<Result<usize, TooLong>>
-        ensures within { IfSome result (λ r. IfOk r (λ n. (self.new.from + n ≤ self.new.to) × (n < N))) }
-        ensures no_feed { IfSome result (λ r. IfOk r (λ n. (k : ℕ) → k < n →
-            slice_index self.new.buffer (self.new.from + k) ≢ 10)) }
-    {
-        if let Some(n) = self.line_feed(self.from) {
-            return Some(Ok(n));
-        }
-        self.move_to_front();
-        while self.to < N {
-            let held = self.to;
-            if self.read_more() == 0 {
-                return if held == 0 { None } else { Some(Ok(held)) };
-            }
-            if let Some(n) = self.line_feed(held) {
-                return Some(Ok(held + n));
-            }
-        }
-        self.pass_over();
-        Some(Err(TooLong))
-    }
-
-    // The first n bytes, which are a line. The line feed behind them is not handed out.
-    fn hand_out(&mut self, n: usize) -> &[u8]
-        requires { self.old.from + n ≤ self.old.to }
-        ensures { result.now ≡ slice_range self.old.buffer self.old.from (self.old.from + n) }
-    {
-        let start = self.from;
-        let end = start + n;
-        self.from = self.to.min(end + 1);
+        let unread = Unread {
+            from: self.from,
+            to: self.to,
+        };
+        let next = next_line(&mut self.input, self.buffer.as_mut_slice(), unread);
+        self.from = next.unread.from;
+        self.to = next.unread.to;
         let buffer = self.buffer.as_slice();
-        &buffer[start..end]
-    }
-
-    fn move_to_front(&mut self)
-        ensures front { (self.new.from ≡ 0) × (self.new.to ≡ self.old.to - self.old.from) }
-        ensures moved { (k : ℕ) → k < self.new.to →
-            slice_index self.new.buffer k ≡ slice_index self.old.buffer (self.old.from + k) }
-    {
-        self.buffer.copy_within(self.from..self.to, 0);
-        self.to -= self.from;
-        self.from = 0;
-    }
-
-    // Reads behind what there is, and tells how many bytes.
-    fn read_more(&mut self) -> usize
-        ensures more { (self.new.from ≡ self.old.from) × (self.new.to ≡ self.old.to + result) }
-        ensures kept { (k : ℕ) → k < self.old.to → slice_index self.new.buffer k ≡ slice_index self.old.buffer k }
-    {
-        let buffer = self.buffer.as_mut_slice();
-        let more = self.input.read(&mut buffer[self.to..]).unwrap_or(0);
-        self.to += more;
-        more
-    }
-
-    // Passes over the rest of a line. Nothing says that the line ends, and a proved loop has to: no run uses up so many
-    // turns.
-    fn pass_over(&mut self) {
-        for _ in 0..u64::MAX {
-            self.from = 0;
-            self.to = 0;
-            if self.read_more() == 0 {
-                return;
-            }
-            if let Some(n) = self.line_feed(0) {
-                self.from = n + 1;
-                return;
-            }
+        match next.line {
+            ReadLine::Given { start, end } => Some(Ok(&buffer[start..end])),
+            ReadLine::TooLong => Some(Err(TooLong)),
+            ReadLine::End => None,
         }
     }
-
-    // How many bytes from a place on stand before the first line feed.
-    fn line_feed(&self, at: usize) -> Option<usize>
-        requires { at ≤ self.now.to }
-        ensures within { IfSome result (λ n. at + n < self.now.to) }
-        ensures none_before { MatchOption result
-            ((k : ℕ) → at + k < self.now.to → slice_index self.now.buffer (at + k) ≢ 10)
-            (λ n. (k : ℕ) → k < n → slice_index self.now.buffer (at + k) ≢ 10) }
-    {
-        let buffer = self.buffer.as_slice();
-        first_feed(&buffer[at..self.to])
-    }
-}
-
-// How many bytes stand before the first line feed.
-fn first_feed(bytes: &[u8]) -> Option<usize>
-    ensures within { IfSome result (λ n. n < length bytes.now) }
-    ensures none_before { MatchOption result
-        (EachIndex bytes.now (λ k. slice_index bytes.now k ≢ 10))
-        (λ n. (k : ℕ) → k < n → slice_index bytes.now k ≢ 10) }
-{
-    bytes.iter().position(|b| *b == b'\n')
 }

@@ -8,7 +8,7 @@ mod output;
 mod words;
 
 pub use digits::{digit_value, read_count, read_float};
-pub use input::{LONGEST_LINE, Lines, TooLong};
+pub use input::{LONGEST_LINE, Lines, Next, ReadLine, TooLong, Unread, next_line};
 pub use output::{
     COUNT_BYTES, FLOAT_BYTES, bits_of, end_line, put_count, put_float, put_floats, put_word,
     write_line,

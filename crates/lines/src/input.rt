@@ -32,7 +32,7 @@ pub struct Next {
 }
 
 // The next line, in a buffer that the caller lends. The last one may lack its line feed. Which it is depends on what is
-// read, of which nothing can be promised.
+// read, of which nothing can be promised. Places outside the buffer are moved into it.
 pub fn next_line<R: Read>(input: &mut R, buffer: &mut [u8], unread: Unread) -> Next
     ensures kept { length buffer.new ≡ length buffer.old }
     ensures next { IsNext buffer.new result }
@@ -129,6 +129,7 @@ fn line_feed(buffer: &[u8], from: usize, to: usize) -> Option<usize>
     requires ordered { from ≤ to }
     requires in_buffer { to ≤ length buffer.now }
     ensures within { IfSome result (λ n. from + n < to) }
+    ensures there { IfSome result (λ n. slice_index buffer.now (from + n) ≡ 10) }
     ensures none_before { MatchOption result
         ((k : ℕ) → from + k < to → slice_index buffer.now (from + k) ≢ 10)
         (λ n. (k : ℕ) → k < n → slice_index buffer.now (from + k) ≢ 10) }
@@ -139,6 +140,7 @@ fn line_feed(buffer: &[u8], from: usize, to: usize) -> Option<usize>
 // How many bytes stand before the first line feed.
 fn first_feed(bytes: &[u8]) -> Option<usize>
     ensures within { IfSome result (λ n. n < length bytes.now) }
+    ensures there { IfSome result (λ n. slice_index bytes.now n ≡ 10) }
     ensures none_before { MatchOption result
         (EachIndex bytes.now (λ k. slice_index bytes.now k ≢ 10))
         (λ n. (k : ℕ) → k < n → slice_index bytes.now k ≢ 10) }
@@ -177,8 +179,7 @@ impl<R: Read, const N: usize> Lines<R, N> {
         }
     }
 
-    // The next line, without its line feed, which the last one may lack. Which it is depends on what is read, of which
-    // nothing can be promised.
+    // The next line, as the function of that name reads it, without its line feed.
     pub fn next_line(&mut self) -> Option<Result<&[u8], TooLong>>
         ensures { IfSome result (λ r. IfOk r (λ line. IsLine N line.now)) }
     {

@@ -31,8 +31,14 @@ returns-in-Some g c =
     no_feed loop.buffer read.new.buffer loop.to feed.n loop.invariant.no_feed read.ensures.kept
     feed.ensures.none_before in
     let before : loop.to + feed.n < loop.to + read.result = feed.ensures.within in
-    let room = read.ensures.within in
-    ((omega arith, omega arith, line_is read.new.buffer (loop.to + feed.n) (omega arith) clean), (omega arith, omega arith))
+    let room = read.ensures.within in (
+      (omega arith, omega arith),
+      (
+        omega arith,
+        line_is read.new.buffer (loop.to + feed.n) (omega arith) clean,
+        (omega arith, omega arith, λ _. feed.ensures.there, λ e. absurd (omega arith)),
+      ),
+    )
 
 pub loop-to-preserved : goal.loop-to-preserved
 loop-to-preserved g c =

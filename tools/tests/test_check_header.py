@@ -13,6 +13,7 @@ LEG = "crates/trace/src/leg.rt"
 RUN = "crates/trace/src/run.rt"
 WHY = "crates/trace/src/refusal.rt"
 STATE = "crates/trace/src/state.rt"
+KIND = "crates/recipe/src/kind.rt"
 RECORD = "crates/recipe/src/record.rt"
 NEWTON = "crates/surfaces/src/newton.rt"
 REFUSAL = "crates/surfaces/src/refusal.rt"
@@ -89,7 +90,7 @@ CHANGES = {
     "another name in the crate": (RUN, "const MOST_RECORDS", "const LARGEST", "MOST_RECORDS is the name of no"),
     "a value of another form": (RUN, "usize = 512", "usize = 1 << 9", "run.rt: a value that cannot be read"),
     "a name of two constants": (RUN, "// How many records", "pub const HIT: u8 = 1;\n//", "HIT is a constant of"),
-    "another kind in the crate": (RECORD, "MIRROR: usize = 256", "MIRROR: usize = 512", "PILINGRUE_KIND_MIRROR is 256"),
+    "another kind in the crate": (KIND, "MIRROR: usize = 256", "MIRROR: usize = 512", "PILINGRUE_KIND_MIRROR is 256"),
     "a longer recipe in the crate": (
         RECORD,
         "MOST_RECIPE_BYTES: usize = 65536",

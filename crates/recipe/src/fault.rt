@@ -2,8 +2,10 @@
 ghost use Rattle.std.specs.Prelude.{◌≡◌};
 ghost use Rattle.recipe.specs.Fault.{fault_number};
 
-use crate::record::MALFORMED;
 use surfaces::{BAD_PARAMETER, NEGATIVE_SEMI_DIAMETER, SINGULAR};
+
+// The table's number for what is no record (SCOPE T1).
+pub const MALFORMED: u8 = 10;
 
 #[derive(Clone, Copy, PartialEq, Eq)]
 pub enum Fault {

@@ -5,10 +5,24 @@ ghost use Rattle.recipe.specs.Fault.{fault_number};
 
 use crate::endian::NUMBER_BYTES;
 use crate::fault::Fault;
-use crate::record::{
-    KIND_BICONIC, KIND_BYTES, KIND_CONIC, KIND_EVEN_ASPHERE, KIND_ODD_ASPHERE, KIND_TOROID,
-};
 use surfaces::MOST_COEFFICIENTS;
+
+// How many bytes a kind takes.
+pub(crate) const KIND_BYTES: usize = 2;
+
+// The kinds' numbers are the recipe format's, and the C header names them.
+pub const KIND_CONIC: usize = 1;
+
+pub const KIND_EVEN_ASPHERE: usize = 2;
+
+pub const KIND_BICONIC: usize = 3;
+
+pub const KIND_TOROID: usize = 4;
+
+pub const KIND_ODD_ASPHERE: usize = 5;
+
+// A mirror's kind is the surface's and this.
+pub const KIND_MIRROR: usize = 256;
 
 // Each kind's length, an even asphere's without coefficients.
 const LENGTH_CONIC: usize = 42;

@@ -9,10 +9,10 @@ mod record;
 mod scan;
 mod source;
 
-pub use fault::Fault;
-pub use record::{
+pub use fault::{Fault, MALFORMED};
+pub use kind::{
     KIND_BICONIC, KIND_CONIC, KIND_EVEN_ASPHERE, KIND_MIRROR, KIND_ODD_ASPHERE, KIND_TOROID,
-    MALFORMED, MOST_RECIPE_BYTES, Optic, ReadRecord, read_record,
 };
+pub use record::{MOST_RECIPE_BYTES, Optic, ReadRecord, read_record};
 pub use scan::{Checked, Refused, check};
 pub use source::{SOURCE_BYTES, Source, read_source};

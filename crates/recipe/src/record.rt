@@ -12,33 +12,15 @@ ghost use Rattle.recipe.specs.Shape.{Shape};
 use crate::endian::{NUMBER_BYTES, number_at, numbers_finite, u16_at};
 use crate::fault::Fault;
 use crate::kind::{
+    KIND_BICONIC, KIND_BYTES, KIND_CONIC, KIND_EVEN_ASPHERE, KIND_MIRROR, KIND_ODD_ASPHERE,
     LENGTH_EVEN_ASPHERE, even_count, length_fits, negative_semi, odd_count, semi_slot,
 };
 use surfaces::{Coefficients, Kind, MOST_COEFFICIENTS, Polynomial, Surface};
 
-// The table's number for what is no record (SCOPE T1).
-pub const MALFORMED: u8 = 10;
-
 // A record is its length, which counts the bytes behind itself, then its kind, then numbers.
 pub(crate) const LENGTH_BYTES: usize = 2;
 
-pub(crate) const KIND_BYTES: usize = 2;
-
 const HEAD_BYTES: usize = LENGTH_BYTES + KIND_BYTES;
-
-// The kinds' numbers are the recipe format's, and the C header names them.
-pub const KIND_CONIC: usize = 1;
-
-pub const KIND_EVEN_ASPHERE: usize = 2;
-
-pub const KIND_BICONIC: usize = 3;
-
-pub const KIND_TOROID: usize = 4;
-
-pub const KIND_ODD_ASPHERE: usize = 5;
-
-// A mirror's kind is the surface's and this.
-pub const KIND_MIRROR: usize = 256;
 
 // How many bytes a recipe has at most.
 pub const MOST_RECIPE_BYTES: usize = 65536;

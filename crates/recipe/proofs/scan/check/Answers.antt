@@ -22,7 +22,7 @@ pub returns-in_err-seen : goal.returns-in_err-seen
 returns-in_err-seen c =
     let p = err_from_is_err_and c.from_residual.result c.from_residual.ensures.1 in
     rw (p.1, p.2)
-    (out_bad _ _ _ _ _ _ _ _ c.loop-number.invariant.told _ _ c.loop-number-test.true c.if-c-s.false
+    (out_bad _ _ _ _ _ _ _ _ c.loop-number.invariant.told _ _ (omega (arith, c.loop-number-test.true)) c.if-c-s.false
     c.in_err-seen.ensures)
 
 pub overflow_add-c-in-loop-number : goal.overflow_add-c-in-loop-number
@@ -44,7 +44,7 @@ loop-number-preserved c =
             inside = p.inside;
             counted = refl;
             limits = omega arith;
-            told = turn _ _ _ _ _ _ _ _ _ _ _ _ _ _ c.loop-number-test.true c.if-c-s.false p
+            told = turn _ _ _ _ _ _ _ _ _ _ _ _ _ _ (omega (arith, c.loop-number-test.true)) c.if-c-s.false p
                 (inl (w.if-number-wanted.true, refl, refl)) told;
           })
       | else-number-wanted w ↦ rw w.c-is
@@ -52,15 +52,15 @@ loop-number-preserved c =
             inside = p.inside;
             counted = refl;
             limits = omega arith;
-            told = turn _ _ _ _ _ _ _ _ _ _ _ _ _ _ c.loop-number-test.true c.if-c-s.false p
+            told = turn _ _ _ _ _ _ _ _ _ _ _ _ _ _ (omega (arith, c.loop-number-test.true)) c.if-c-s.false p
                 (inr (w.if-number-wanted.false, refl, refl)) told;
           })
     ])
 
 pub returns-then-all-c : goal.returns-then-all-c
 returns-then-all-c c =
-    out_full _ _ _ _ _ _ _ _ c.loop-number.invariant.told c.loop-number-test.false c.if-all-c.true
+    out_full _ _ _ _ _ _ _ _ c.loop-number.invariant.told (omega (arith, c.loop-number-test.false)) c.if-all-c.true
 
 pub returns : goal.returns
 returns c =
-    out_enough _ _ _ _ _ _ _ _ c.loop-number.invariant.told c.loop-number-test.false c.if-all-c.false
+    out_enough _ _ _ _ _ _ _ _ c.loop-number.invariant.told (omega (arith, c.loop-number-test.false)) c.if-all-c.false

@@ -9,9 +9,9 @@ pub returns : goal.returns
 unfolding end_line ascii
 returns c =
     let x = c.args in
-    rw c.end_line.ensures
-    (line_put _ _ _ _ _ (omega (arith, c.requires, end_short x.outcome x.steps x.path))
+    rw (c.end_line.ensures, ← c.from.ensures)
+    (line_put _ _ _ _ _ (omega (arith, c.requires, end_short c.from.result x.steps x.path))
     (one_put _ _ _ _ _ c.put_word-end.ensures
-    (one_put _ _ _ _ _ (rw c.from.ensures at c.put_count-end.ensures)
+    (one_put _ _ _ _ _ c.put_count-end.ensures
     (one_put _ _ _ _ _ c.put_count-end-2.ensures
     (one_put _ _ _ _ _ c.put_float-end.ensures (none_put _))))))

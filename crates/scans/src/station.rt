@@ -66,15 +66,12 @@ impl Station {
         print_reply(output, b"start", answer, self.state, results)
     }
 
-    // A refused continuation leaves the state as it was.
     fn go_on<W: Write>(&mut self, output: &mut W, allowed: u16) -> Result<()> {
         let results = first(&mut self.results, self.room);
         let answer = self
             .state
             .resume(part(&self.recipe, 0, self.length), results, allowed);
-        if let Ok(state) = answer {
-            self.state = state;
-        }
+        self.state = self.state.handed_back(answer);
         print_reply(output, b"continue", answer, self.state, results)
     }
 }

@@ -167,4 +167,11 @@ impl State {
         }
         Ok(walk(self, recipe, buf, 0, c.count, allowed))
     }
+
+    // The state that a continuation hands back: a refused one hands back the state that it was given.
+    pub fn handed_back(self, answer: Result<State, Refused>) -> State
+        ensures { result ≡ (told_continue self answer).state }
+    {
+        answer.unwrap_or(self)
+    }
 }

@@ -304,10 +304,11 @@ static void change(struct input *x) {
     }
 }
 
-/* What a call costs beside its steps. */
+/* What a call costs beside its steps; `full` is what the check of a recipe of the most records costs more, since it ends
+   by their number and not at the recipe's end. */
 
 static struct {
-    uint64_t start, scan, check[KIND_COUNT][COEFFICIENTS + 1];
+    uint64_t start, scan, full, check[KIND_COUNT][COEFFICIENTS + 1];
 } cost;
 
 static int failed;
@@ -363,7 +364,7 @@ static size_t records(const struct trace *t) {
 
 /* The checks of a recipe's records. */
 static uint64_t checks(const struct trace *t) {
-    uint64_t sum = 0;
+    uint64_t sum = records(t) == PILINGRUE_MOST_RECORDS ? cost.full : 0;
     for (size_t at = 0; at < t->bytes; at += length_at(t->recipe + at)) {
         int slot;
         const struct kind *k = kind_at(t->recipe + at, &slot);
@@ -393,12 +394,16 @@ static void count_fixed_parts(void) {
         struct input x = drawn(0);
         int n = i ? 1 + below(24) : PILINGRUE_MOST_RECORDS;
         mix(&t, n);
+        if (i == 0) {
+            cost.full = count_continue(&t, 0) - cost.scan - checks(&t);
+            expect(cost.full < 8, "a check of the most records costs less than 8 instructions more");
+        }
         expect(count_continue(&t, 0) == cost.scan + checks(&t), "a scan costs its fixed part and its records' checks");
         seen = 0;
         expect(trap_start(&t, x.state + 1, (size_t)n * PILINGRUE_RECORD_NUMBERS).number == 1, "a start is accepted");
         if (i == 0) cost.start = seen - checks(&t);
         expect(seen == cost.start + checks(&t), "a start costs its fixed part and its records' checks");
-        expect(blanked == 8 * PILINGRUE_RECORD_NUMBERS * (size_t)n, "a start blanks the room and no more");
+        expect(blanked == 8 * (PILINGRUE_RECORD_NUMBERS * (size_t)n - 1), "a start blanks the room, its last number apart");
     }
 }
 

@@ -2,7 +2,7 @@
 use lines::{COUNT_BYTES, FLOAT_BYTES, bits_of, put_count, put_floats, put_word, write_line};
 use std::io::{self, Write};
 use surfaces::ACCEPTED;
-use trace::{RECORD_NUMBERS, Refused, State};
+use trace::{RECORD_NUMBERS, Refused, State, record_told};
 
 // The most bytes of each line: its word and a space, then counts and numbers.
 const ANSWER_BYTES: usize = 9 + 2 * COUNT_BYTES;
@@ -31,17 +31,13 @@ pub(crate) fn print_reply<W: Write>(
     print_results(output, results)
 }
 
-// A refused one has no record.
 pub(crate) fn print_reach<W: Write>(
     output: &mut W,
     surface: usize,
     answer: Result<[f64; RECORD_NUMBERS], Refused>,
 ) -> io::Result<()> {
     print_answer(output, b"reach", answer.err())?;
-    match answer {
-        Ok(row) => print_record(output, surface, &row),
-        Err(_) => Ok(()),
-    }
+    print_record(output, surface, &record_told(answer))
 }
 
 // 1, or the refusal and its place, by numbers, which are what is printed.

@@ -18,4 +18,4 @@ pub use recipe::{MOST_RECIPE_BYTES, SOURCE_BYTES};
 pub use refusal::{BUFFER_TOO_SHORT, Refused, STATE_DOES_NOT_FIT, Why};
 pub use run::{MOST_RECORDS, MOST_ROOM, start, whole};
 pub use state::{DONE, RUNNING, State};
-pub use wanted::reach;
+pub use wanted::{reach, record_told};

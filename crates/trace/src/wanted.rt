@@ -33,3 +33,11 @@ pub fn reach(
     walk(first, &recipe[..c.end], &mut row, wanted, c.count, u16::MAX);
     Ok(row)
 }
+
+// The record that an answer tells: a refused question's is blank.
+#[tactic(auto, using(numbers::proofs::Literals::literals))]
+pub fn record_told(answer: Result<[f64; RECORD_NUMBERS], Refused>) -> [f64; RECORD_NUMBERS]
+    ensures { result ≡ (told_reach answer).row }
+{
+    answer.unwrap_or([BLANK; RECORD_NUMBERS])
+}

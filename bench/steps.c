@@ -304,8 +304,8 @@ static void change(struct input *x) {
     }
 }
 
-/* What a call costs beside its steps; `full` is what the check of a recipe of the most records costs more, since it ends
-   by their number and not at the recipe's end. */
+/* What a call costs beside its steps. `full` is what a check of the most records costs more, since it ends by their
+   number and not at the recipe's end. */
 
 static struct {
     uint64_t start, scan, full, check[KIND_COUNT][COEFFICIENTS + 1];
@@ -387,23 +387,36 @@ static void mix(struct trace *t, int n) {
     }
 }
 
-/* What a start and a scan cost is their fixed part and the sum of their records' checks, whatever the numbers are. */
+/* The same for every recipe of the most records, and next to nothing. */
+static void count_full(void) {
+    static struct trace t;
+    mix(&t, PILINGRUE_MOST_RECORDS);
+    cost.full = count_continue(&t, 0) - cost.scan - checks(&t);
+    expect(cost.full < 8, "a check of the most records costs less than 8 instructions more");
+}
+
+static int blank(const struct trace *t, size_t room) {
+    for (size_t i = 0; i < room; i++)
+        if (pattern(t->buffer[i]) != 0) return 0;
+    return 1;
+}
+
+/* What a start and a scan cost is their fixed part and the sum of their records' checks, whatever the numbers are. The
+   last number of a room is blanked apart from the others. */
 static void count_fixed_parts(void) {
     static struct trace t;
     for (int i = 0; i < 40; i++) {
         struct input x = drawn(0);
         int n = i ? 1 + below(24) : PILINGRUE_MOST_RECORDS;
+        size_t room = (size_t)n * PILINGRUE_RECORD_NUMBERS;
         mix(&t, n);
-        if (i == 0) {
-            cost.full = count_continue(&t, 0) - cost.scan - checks(&t);
-            expect(cost.full < 8, "a check of the most records costs less than 8 instructions more");
-        }
         expect(count_continue(&t, 0) == cost.scan + checks(&t), "a scan costs its fixed part and its records' checks");
         seen = 0;
-        expect(trap_start(&t, x.state + 1, (size_t)n * PILINGRUE_RECORD_NUMBERS).number == 1, "a start is accepted");
+        for (size_t k = 0; k < room; k++) t.buffer[k] = 1.0;
+        expect(trap_start(&t, x.state + 1, room).number == 1, "a start is accepted");
         if (i == 0) cost.start = seen - checks(&t);
         expect(seen == cost.start + checks(&t), "a start costs its fixed part and its records' checks");
-        expect(blanked == 8 * (PILINGRUE_RECORD_NUMBERS * (size_t)n - 1), "a start blanks the room, its last number apart");
+        expect(blanked == 8 * (room - 1) && blank(&t, room), "a start blanks the room and no more");
     }
 }
 
@@ -766,6 +779,7 @@ static int print_allowance(const char *path, const char *file, double time) {
 
 /* The dearest of the file and of a short search, by both counters; and the samples held against them. */
 static int table(int times, char **samples) {
+    count_full();
     count_fixed_parts();
     hold_questions();
     begin_all();

@@ -412,11 +412,12 @@ static void count_fixed_parts(void) {
         mix(&t, n);
         expect(count_continue(&t, 0) == cost.scan + checks(&t), "a scan costs its fixed part and its records' checks");
         seen = 0;
-        for (size_t k = 0; k < room; k++) t.buffer[k] = 1.0;
+        for (size_t k = 0; k < ROOM; k++) t.buffer[k] = 1.0;
         expect(trap_start(&t, x.state + 1, room).number == 1, "a start is accepted");
         if (i == 0) cost.start = seen - checks(&t);
         expect(seen == cost.start + checks(&t), "a start costs its fixed part and its records' checks");
-        expect(blanked == 8 * (room - 1) && blank(&t, room), "a start blanks the room and no more");
+        expect(blanked == 8 * (room - 1) && blank(&t, room), "a start blanks the room");
+        expect(room == ROOM || t.buffer[room] == 1.0, "a start blanks no more than the room");
     }
 }
 
@@ -779,7 +780,6 @@ static int print_allowance(const char *path, const char *file, double time) {
 
 /* The dearest of the file and of a short search, by both counters; and the samples held against them. */
 static int table(int times, char **samples) {
-    count_full();
     count_fixed_parts();
     hold_questions();
     begin_all();
@@ -813,6 +813,7 @@ static void prepare(void) {
     trap_version();
     expect(seen == 2, "a call of pilingrue_version takes two instructions");
     count_checks();
+    count_full();
     count_next();
 }
 

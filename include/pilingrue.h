@@ -27,7 +27,7 @@
    is a hit, and a 0 is blank.
 
    The library has no memory of its own. A call reads and writes what it is lent here and nothing else, so any number
-   of traces may be under way at once. It takes about 2 KB of stack, and of the C library it asks for memset and at
+   of traces may be under way at once. It takes less than 3 KB of stack, and of the C library it asks for memset and at
    most memcpy. Every call ends, with an answer or a refusal, whatever the bytes and numbers are; bench/steps counts
    the instructions of the dearest that were found. Lengths are in millimetres. */
 #ifndef PILINGRUE_H
